@@ -8,7 +8,7 @@ use Rattle.row_page.specs.Changes.{PageChange, version_in}
 use Rattle.row_page.specs.Rows.{Row}
 use Rattle.stamp.specs.declared.Version.{Version}
 use Rattle.leaf_rows.specs.Rows.{version_at}
-use Rattle.rows_shown.specs.Shows.{shown_at}
+use Rattle.reconcile.specs.Shows.{shown_at}
 use Rattle.update_chain.specs.declared.update.Update.{Update}
 use Rattle.update_chain.proofs.Below.{member-append-left, member-append-right}
 use Rattle.leaf_chains.specs.declared.slot.KeyChain.{KeyChain}

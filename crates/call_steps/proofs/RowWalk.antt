@@ -5,7 +5,7 @@ use Rattle.item.specs.declared.Change.{Change}
 use Rattle.stamp.specs.declared.Version.{Version}
 use Rattle.stamp.specs.declared.View.{View}
 use Rattle.kv_model.specs.Rows.{Way, is_past, comes_after}
-use Rattle.rows_shown.specs.Shows.{shown_at}
+use Rattle.reconcile.specs.Shows.{shown_at}
 use Rattle.update_chain.specs.declared.update.Update.{Update}
 use Rattle.update_chain.specs.Updates.{Gives, IsOlder}
 use Rattle.leaf_chains.specs.Slots.{chain_at}

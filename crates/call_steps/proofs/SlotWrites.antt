@@ -5,7 +5,7 @@ use Rattle.stamp.specs.declared.Name.{Name}
 use Rattle.stamp.specs.declared.View.{View}
 use Rattle.wt_code.specs.declared.answers.Answer.TheVariants as answer
 use Rattle.wt_calls.specs.declared.demand.Demand.{Demand}
-use Rattle.rows_shown.specs.Shows.{shown_at}
+use Rattle.reconcile.specs.Shows.{shown_at}
 use Rattle.update_chain.specs.declared.update.Update.{Update}
 use Rattle.update_chain.specs.Updates.{installed, is_led_by}
 use Rattle.leaf_chains.specs.declared.slot.KeyChain.{KeyChain}

@@ -2,7 +2,7 @@
 
 ghost use Rattle.std.specs.Prelude.{◌≡◌, Bool, [], None, Some, IfOk, OnOk, OnErr, option_copied, option_map};
 ghost use Rattle.snapshot.specs.Sight.{IsSight, sight_of};
-ghost use Rattle.rows_shown.specs.Shows.{shown_at};
+ghost use Rattle.reconcile.specs.Shows.{shown_at};
 ghost use Rattle.update_chain.specs.Updates.{installed, is_led_by};
 ghost use Rattle.update_chain.specs.Writing.{newest_of};
 ghost use Rattle.leaf_chains.specs.Slots.{chain_at, slot_changed, slot_of};

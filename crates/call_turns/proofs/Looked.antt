@@ -10,7 +10,7 @@ use Rattle.wt_code.specs.declared.answers.Answer.{Answer}
 use Rattle.wt_code.specs.declared.answers.Answer.TheVariants as answers
 use Rattle.wt_code.specs.declared.refusals.Refusal.{Refusal}
 use Rattle.wt_code.specs.declared.refusals.Refusal.TheVariants as refusal
-use Rattle.rows_shown.specs.Shows.{shown_at}
+use Rattle.reconcile.specs.Shows.{shown_at}
 use Rattle.txn_table.specs.declared.phase.Phase.TheVariants as phase
 use Rattle.update_chain.specs.declared.look.Judgement.{Judgement}
 use Rattle.update_chain.specs.declared.look.Judgement.TheVariants as judgement

@@ -15,7 +15,7 @@ use Rattle.stored.specs.Records.{TableRoot}
 use Rattle.stored.specs.Stored.{cells_in, placed_in, tables_of}
 use Rattle.stored.specs.TableTree.{TableTree}
 use Rattle.stored.specs.Tree.{join}
-use Rattle.rows_shown.proofs.Keyed.{of_key_elsewhere, of_key_rows}
+use Rattle.reconcile.proofs.Keyed.{of_key_elsewhere, of_key_rows}
 use Rattle.ckpt_content.specs.Checkpoints.{AreRowsOf}
 use Rattle.ckpt_content.proofs.Tables.{table_there}
 

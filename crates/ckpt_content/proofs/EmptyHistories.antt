@@ -12,7 +12,7 @@ use Rattle.kv_model.specs.Ordered.{Older}
 use Rattle.kv_model.specs.StoreLaws.{Held}
 use Rattle.kv_model.proofs.Finishing.{line-committed}
 use Rattle.kv_model.proofs.Ordering.{line-descends}
-use Rattle.leaf_capture.proofs.Sifting.{alone}
+use Rattle.reconcile.proofs.CaptureSifting.{alone}
 use Rattle.ckpt_content.specs.Laws.{EmptyHistoriesServe}
 use Rattle.ckpt_content.proofs.Descents.{head_member}
 

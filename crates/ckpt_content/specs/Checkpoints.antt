@@ -8,7 +8,7 @@ use Rattle.kv_model.specs.History.{Table, has_table, line, of_key, tables}
 use Rattle.kv_model.specs.Machine.{Machine}
 use Rattle.row_page.specs.Rows.{Row}
 use Rattle.leaf_rows.specs.Rows.{AreFit}
-use Rattle.rows_shown.specs.Shows.{shown_at}
+use Rattle.reconcile.specs.Shows.{shown_at}
 use Rattle.snapshot.specs.Matters.{AreUnended, SeesCommitted}
 use Rattle.stored.specs.HistoryTree.{HistoryRecord, record_in}
 use Rattle.stored.specs.Records.{Record}

@@ -13,7 +13,7 @@ use Rattle.kv_model.specs.StoreLaws.{Held}
 use Rattle.kv_model.specs.Valid.{Valid}
 use Rattle.item.specs.declared.Change.{Change}
 use Rattle.stamp.specs.declared.Version.{Version}
-use Rattle.leaf_capture.specs.CutLaws.{NewestSuffices}
+use Rattle.reconcile.specs.CutLaws.{NewestSuffices}
 use Rattle.stored.specs.HistoryTree.{HistoryRecord}
 use Rattle.stored.specs.Stored.{Stored, IsOn, content_of}
 use Rattle.hist_store.specs.declared.key_history.KeyHistory.{KeyHistory}

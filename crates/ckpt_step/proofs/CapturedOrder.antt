@@ -64,7 +64,7 @@ apart_join (x ∷ xs) ys apart more across = (both xs apart.0, apart_join xs ys 
     both [] all = all_made (λ (c : Block). AreApart x.place c.place) ys (λ c there. across x c (inl refl) there)
     both (z ∷ zs) all = (all.0, both zs all.1)
 
-turned : (x y : Addr) → AreApart x y → AreApart y x
+pub turned : (x y : Addr) → AreApart x y → AreApart y x
 turned x y (inl is) = inr is
 turned x y (inr is) = inl is
 

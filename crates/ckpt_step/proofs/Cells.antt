@@ -11,7 +11,8 @@ use Rattle.device_layout.specs.declared.addr.Addr.{Addr}
 use Rattle.device_layout.specs.Slots.{addr_in}
 use Rattle.kv_model.specs.Holds.{Member}
 use Rattle.stored.specs.Blocks.{Block}
-use Rattle.stored.specs.Stored.{Stored, tables_blocks}
+use Rattle.stored.specs.Stored.{Stored}
+use Rattle.checkpoint_core.specs.Stands.{body_blocks}
 use Rattle.device_leaf.specs.Damage.{record_found}
 use Rattle.recover_open.specs.Damage.{found_there}
 use Rattle.tree_write.specs.Captures.{with_addr, with_addrs}
@@ -151,10 +152,10 @@ module _ (u : ℕ) where
   start_dead s = elim (start_either s) [ inl is ↦ ap (λ (c : Cell). c.is_live) is | inr is ↦ ap (λ (c : Cell). c.is_live) is ]
 
   -- of a checkpoint
-  pub found_of : (s : Stored) → Finds (start s) (tables_blocks s.kept.tables s.trees) ⊎ FindsNone (start s) (tables_blocks s.kept.tables s.trees)
-  found_of s = finds (start s) (tables_blocks s.kept.tables s.trees) (start_names s)
+  pub found_of : (s : Stored) → Finds (start s) (body_blocks s) ⊎ FindsNone (start s) (body_blocks s)
+  found_of s = finds (start s) (body_blocks s) (start_names s)
 
-  pub found_is : (s : Stored) → found_cell (found_in (Some s)) u ≡ fold (with_found u) (start s) (map {A = Block} (λ b. found_there b.place) (tables_blocks s.kept.tables s.trees))
+  pub found_is : (s : Stored) → found_cell (found_in (Some s)) u ≡ fold (with_found u) (start s) (map {A = Block} (λ b. found_there b.place) (body_blocks s))
   unfolding start
   found_is s = refl
 

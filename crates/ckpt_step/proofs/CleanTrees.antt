@@ -17,7 +17,7 @@ use Rattle.row_page.specs.Changes.{version_in}
 use Rattle.stamp.specs.Order.{later}
 use Rattle.row_page.specs.Rows.{Row, RowFits, key_most}
 use Rattle.leaf_rows.specs.Rows.{AreFit}
-use Rattle.rows_shown.specs.Shows.{shown_at}
+use Rattle.reconcile.specs.Shows.{shown_at}
 use Rattle.snapshot.specs.Matters.{NoneResolves, SeesCommitted}
 use Rattle.snapshot.specs.Past.{is_below}
 use Rattle.snapshot.specs.Sight.{Sight, is_seen}
@@ -27,7 +27,7 @@ use Rattle.update_chain.specs.declared.update.Update.{Update}
 use Rattle.update_chain.specs.EventLaws.{StandsFor}
 use Rattle.leaf_frame.specs.Leaf.{HeldLeaf}
 use Rattle.leaf_chains.specs.Slots.{chain_at}
-use Rattle.leaf_capture.specs.Capture.{ChainFits, ChainsFit}
+use Rattle.reconcile.specs.Capture.{ChainFits, ChainsFit}
 use Rattle.frame_capture.specs.Capture.{captured_over}
 use Rattle.frame_capture.specs.Laws.{CapturesAreNewest}
 use Rattle.ckpt_step.specs.Floors.{AreNewestBefore, AreNewestIn, is_before, newest_before}

@@ -53,7 +53,6 @@ module _ (old : Option Stored) (lives : List Lone) (lone : AreLone old lives) (x
   pub roots_fewer : (known : List Table) (written : Written) (places : List TreePlace) (o : Option Stored) → AreRoots known lives leaves written places o → AreRoots known fewer leaves written places o
   roots_fewer known written places None none = none
   roots_fewer known written places (Some s) roots = record {
-    bare = roots.bare;
     few = roots.few;
     count = roots.count;
     trees = λ i t place at stands. let tree = roots.trees i t place at stands in (tree.0, tree.1, parted_fewer t.number written place tree.0 tree.2);

@@ -1,8 +1,8 @@
 -- A leaf without rows goes out of its frame, and nothing is kept of what checkpoints wrote of it: the ground of a checkpoint stays.
 use Rattle.std.proofs.Common.{◌≡◌, ◌∙◌, ◌<◌, ℕ, true, false, List, [], ◌∷◌, ◌++◌, Option, Some, None, refl, ap, sym, subst, inl, inr, arith}
-use Rattle.std.specs.Prelude.{◌≢◌, ◌==◌, if◌then◌else◌, slice_get}
+use Rattle.std.specs.Prelude.{◌≢◌, ◌==◌, slice_get}
 use Rattle.std.specs.List.{Contains}
-use Rattle.std.proofs.lemmas.Bool.{cases_Bool, cases_eq, eq-eqb, ne_eqb}
+use Rattle.std.proofs.lemmas.Bool.{cases_Bool, cases_eq}
 use Rattle.call_steps.specs.declared.hub.Hub.{Hub}
 use Rattle.engine.proofs.LeavesCome.{named-there}
 use Rattle.engine_world.specs.Worlds.{World}
@@ -13,15 +13,15 @@ use Rattle.stored.specs.Stored.{Stored}
 use Rattle.stored.specs.TableTree.{Entry, TableTree}
 use Rattle.stored.specs.Tree.{join}
 use Rattle.tree_dir.specs.declared.leaf.Leaf.{Leaf}
-use Rattle.tree_dir.specs.Leaves.{IsDirectory, leaf_named, leaf_under, leaves_of}
+use Rattle.tree_dir.specs.Leaves.{IsDirectory, leaf_named, leaves_of}
 use Rattle.tree_open.specs.declared.place.TreePlace.{TreePlace}
 use Rattle.tree_write.specs.Drafts.{HasLeaves}
 use Rattle.tree_write.specs.Steps.{links_in}
 use Rattle.tree_write.specs.Writes.{LeadApart}
-use Rattle.ckpt_step.specs.Floors.{AreLivesOn, AreNewestBefore, AreOnDevice, Follows, FollowsFrom, IsAsItLies, IsLeafBefore, IsOnDevice}
-use Rattle.ckpt_step.specs.Grounds.{AreRoots, AreSince, AreWritten, HasRoots, StandsOn}
+use Rattle.ckpt_step.specs.Floors.{AreLivesOn, AreOnDevice, Follows, FollowsFrom, IsAsItLies, IsLeafBefore}
+use Rattle.ckpt_step.specs.Grounds.{AreRoots, AreSince, AreWritten, StandsOn}
 use Rattle.ckpt_step.specs.Lives.{is_live}
-use Rattle.ckpt_step.specs.Parts.{AreBelowFloor, IsPart, IsParted, has_rows, own_part, part_in, part_leaves, part_of, parts_of}
+use Rattle.ckpt_step.specs.Parts.{IsPart, IsParted, has_rows, own_part, part_in, part_leaves, part_of, parts_of}
 use Rattle.ckpt_step.specs.Rooms.{Rooms, Written, known_in}
 use Rattle.ckpt_step.specs.Stays.{let_go}
 use Rattle.ckpt_step.specs.declared.ground.Ground.{Ground}
@@ -84,7 +84,6 @@ module _ (hub : Hub) (l : Leaf) (dir : IsDirectory hub.dir) (named : leaf_named 
     roots_now : (places : List TreePlace) (old : Option Stored) → AreRoots hub.tables.tables lives hub.dir.leaves had places old → AreRoots hub.tables.tables lives (after hub l dir named) has places old
     roots_now places None none = none
     roots_now places (Some s) roots = record {
-      bare = roots.bare;
       few = roots.few;
       count = roots.count;
       trees = λ i t place at stands. let tree = roots.trees i t place at stands in (tree.0, tree.1, parted_now t.number place tree.0 tree.2);
@@ -189,6 +188,7 @@ stands_empty seen images hub l dir named g parts old gone others bare rowless de
   long = on.long;
   within = on.within;
   roots = roots_now hub l dir named (known_in g.parts) (known_in parts) gone others bare rowless g.lives g.trees.items old on.roots;
+  history = on.history;
   written = written_now hub l dir named (known_in g.parts) (known_in parts) gone others bare rowless g.lives g.trees.items placed on.written;
   since = since_now hub l dir named (known_in g.parts) (known_in parts) gone others bare rowless g.lives dead old on.since;
   led = led_now hub l dir named hub.tables.tables g.lives on.led;

@@ -8,7 +8,7 @@ use Rattle.std.proofs.lemmas.List.{append-nil, take_more}
 use Rattle.kv_model.specs.Machine.{of_some}
 use Rattle.row_page.specs.Rows.{Ascends, Row, is_below}
 use Rattle.row_page.proofs.Ascending.{below_trans, keys_part}
-use Rattle.rows_shown.proofs.Keyed.{same_key}
+use Rattle.reconcile.proofs.Keyed.{same_key}
 use Rattle.leaf_rows.specs.Rows.{AreFit}
 use Rattle.reconcile.specs.declared.image.Image.{Image}
 use Rattle.reconcile.specs.Images.{AreImages, IsLow}

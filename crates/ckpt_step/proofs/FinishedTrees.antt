@@ -26,7 +26,7 @@ use Rattle.tree_write.proofs.Joining.{captures_apart}
 use Rattle.tree_write.proofs.Trees.{places_leaves}
 use Rattle.engine_world.specs.Stands.{Engine, Stands}
 use Rattle.engine_world.specs.Worlds.{World}
-use Rattle.ckpt_step.specs.Checkpoints.{IsRowsOf}
+use Rattle.ckpt_content.specs.Checkpoints.{IsRowsOf}
 use Rattle.ckpt_step.specs.Drafting.{Drafting, DraftStopped}
 use Rattle.ckpt_step.specs.Goings.{BeginsIn, HasPartsAt, NotOneMore, OneMore}
 use Rattle.ckpt_step.specs.Lives.{live_addrs}

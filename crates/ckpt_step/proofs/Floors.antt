@@ -18,7 +18,7 @@ use Rattle.stored.specs.Stored.{Stored}
 use Rattle.engine_world.specs.Systems.{checkpointed}
 use Rattle.engine_world.specs.Worlds.{World}
 use Rattle.row_page.specs.Rows.{Row}
-use Rattle.rows_shown.specs.Shows.{shown_at}
+use Rattle.reconcile.specs.Shows.{shown_at}
 use Rattle.stored.specs.TableTree.{Entry as TreeEntry, TableTree}
 use Rattle.stored.specs.Tree.{join}
 use Rattle.tree_dir.specs.declared.leaf.Leaf.{Leaf}

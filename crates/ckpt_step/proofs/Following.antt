@@ -10,12 +10,13 @@ use Rattle.catalog.specs.Known.{NumbersAscend}
 use Rattle.snapshot.specs.Matters.{AreUnended}
 use Rattle.snapshot.specs.Sight.{Ascends, IsSight, Sight, is_listed}
 use Rattle.stamp.specs.declared.Name.{Name}
+use Rattle.stored.specs.HistoryTree.{HistoryTree}
 use Rattle.stored.specs.Records.{Record}
 use Rattle.stored.specs.TableTree.{Entry, TableTree}
 use Rattle.stored.specs.Tree.{join}
-use Rattle.recover_open.specs.Bare.{IsBare, tree_rows}
+use Rattle.recover_open.specs.Bare.{tree_rows}
 use Rattle.tree_open.specs.declared.place.TreePlace.{TreePlace}
-use Rattle.ckpt_step.specs.Checkpoints.{AreRowsOf, IsRowsOf}
+use Rattle.ckpt_content.specs.Checkpoints.{AreRowsOf, IsRowsOf}
 use Rattle.ckpt_step.specs.Floors.{AreNewestBefore, FollowsFrom, Respects, is_before}
 use Rattle.ckpt_step.specs.Halves.{AreOnShelf, AreParted}
 use Rattle.ckpt_step.specs.Parts.{AreBelowFloor, part_in, part_leaves, part_of}
@@ -43,14 +44,14 @@ rows_at m (u ∷ known) (x ∷ trees) zero t tree are at also = subst (λ (z : T
 rows_at m (u ∷ known) (x ∷ trees) (suc i) t tree are at also = rows_at m known trees i t tree are.1 at also
 
 -- lead: the leaves of each tree lead apart
-module _ (known : List Table) (next : ℕ) (ascend : NumbersAscend 1 known next) (places : List TreePlace) (trees : List TableTree) (count : length places ≡ length known) (bytes : List ℕ) (there : AreTreesAt bytes places trees) (r : Record) (a : Addr) (bare : IsBare r) (tables : r.tables ≡ roots_by_name known (roots_of places))
+module _ (known : List Table) (next : ℕ) (ascend : NumbersAscend 1 known next) (places : List TreePlace) (trees : List TableTree) (count : length places ≡ length known) (bytes : List ℕ) (there : AreTreesAt bytes places trees) (r : Record) (history : HistoryTree) (a : Addr) (tables : r.tables ≡ roots_by_name known (roots_of places))
     (leaves : List Leaf) (written : Written) (w : World) (are : AreRowsOf w.machine known trees) (parted : AreParted known leaves written places trees) (shelved : AreOnShelf known leaves written places trees w.shelf) (lead : (i : ℕ) (p : TreePlace) → slice_get places i ≡ Some p → LeadApart p.leaves.items) where
   -- a leaf that is as it lies has the rows of its block, and the part of one whose names are below a floor has the newest before it
-  pub follows_new : (floor : Name) → Respects w.machine floor → FollowsFrom (Some (made_of r known trees a)) known [] leaves written places floor w
+  pub follows_new : (floor : Name) → Respects w.machine floor → FollowsFrom (Some (made_of r known trees history a)) known [] leaves written places floor w
   follows_new floor respects = record {
     respects = respects;
     leaf = λ i t p tree l at stands has mine its dead.
-        let here = made_at known next ascend places trees count bytes there r a bare tables i t p tree at stands has in
+        let here = made_at known next ascend places trees count bytes there r history a tables i t p tree at stands has in
         record {
           before = λ part found below. before floor i t p tree l part at stands here mine its found below;
           same = shelved i t p tree l at stands here mine its;

@@ -28,7 +28,6 @@ module _ (d n : Directory) (l : Leaf) (entries : List Entry) (ids : List ℕ) (h
   roots_then : (old : Option Stored) → AreRoots known lives d.leaves had places old → AreRoots known lives n.leaves has places old
   roots_then None none = none
   roots_then (Some s) roots = record {
-    bare = roots.bare;
     few = roots.few;
     count = roots.count;
     trees = λ i t place at stands. let tree = roots.trees i t place at stands in (tree.0, tree.1, parted_then d n l entries ids had has g lives none_live t.number place tree.0 tree.2);
@@ -82,6 +81,7 @@ stands_then seen images hub n ground parts old l entries ids g none dead on = re
   long = on.long;
   within = on.within;
   roots = roots_then hub.dir n l entries ids (known_in ground.parts) (known_in parts) g hub.tables.tables ground.trees.items ground.lives none dead old on.roots;
+  history = on.history;
   written = written_then hub.dir n l entries ids (known_in ground.parts) (known_in parts) g hub.tables.tables ground.trees.items ground.lives none dead on.written;
   since = since_then hub.dir n l entries ids (known_in ground.parts) (known_in parts) g hub.tables.tables ground.trees.items ground.lives none dead old on.since;
   led = led_then hub.dir n l entries ids (known_in ground.parts) (known_in parts) g hub.tables.tables ground.trees.items ground.lives none dead old on.since on.led;

@@ -11,7 +11,7 @@ use Rattle.leaf_rows.specs.Rows.{version_at}
 use Rattle.recover_open.specs.Bare.{tree_rows}
 use Rattle.row_page.specs.Changes.{PageChange, version_in}
 use Rattle.row_page.specs.Rows.{Row}
-use Rattle.rows_shown.specs.Shows.{shown_at}
+use Rattle.reconcile.specs.Shows.{shown_at}
 use Rattle.stamp.specs.declared.Name.{Name}
 use Rattle.stamp.specs.declared.Version.{Version}
 use Rattle.stored.specs.TableTree.{Entry, TableTree}

@@ -15,7 +15,7 @@ use Rattle.recover_open.specs.Bare.{tree_rows}
 use Rattle.tree_open.specs.declared.place.TreePlace.{TreePlace}
 use Rattle.tree_write.specs.Captures.{places_of}
 use Rattle.tree_write.specs.Sizes.{PlacesAll}
-use Rattle.ckpt_step.specs.Checkpoints.{AreRowsOf}
+use Rattle.ckpt_content.specs.Checkpoints.{AreRowsOf}
 use Rattle.ckpt_step.specs.Goings.{Going, OneMore}
 use Rattle.ckpt_step.specs.Sizes.{HasRowsOf, LacksTables, PlacesTables, TableWrites}
 use Rattle.ckpt_step.specs.Parts.{links_over}

@@ -17,7 +17,7 @@ use Rattle.tree_dir.specs.Leaves.{Directory, IsDirectory, leaves_of}
 use Rattle.engine_world.specs.Worlds.{World}
 use Rattle.checkpoint_core.specs.Finishes.{IsOld}
 use Rattle.tree_open.specs.declared.place.TreePlace.{TreePlace}
-use Rattle.ckpt_step.specs.Checkpoints.{AreRowsOf}
+use Rattle.ckpt_content.specs.Checkpoints.{AreRowsOf}
 use Rattle.ckpt_step.specs.Goings.{Going, HasPartsAt, IsOfTable, MayGo}
 use Rattle.ckpt_step.specs.Grounds.{AreRoots, AreSince, AreWritten}
 use Rattle.ckpt_step.specs.Lives.{live_addrs}

@@ -1,5 +1,5 @@
 -- A ground of which something else is kept is that of the same checkpoint.
-use Rattle.std.specs.Prelude.{◌≡◌, ℕ, List, Option}
+use Rattle.std.specs.Prelude.{ℕ, List, Option}
 use Rattle.std.proofs.Common.{inl, inr}
 use Rattle.disk_model.specs.declared.disk.Disk.{Ghosts}
 use Rattle.wt_code.specs.declared.refusals.Refusal.{Refusal}
@@ -26,6 +26,7 @@ stands_kept seen images hub g old kept on = record {
   long = on.long;
   within = on.within;
   roots = on.roots;
+  history = on.history;
   written = on.written;
   since = on.since;
   led = on.led;
@@ -70,6 +71,7 @@ module _ {D : Type 0} (g : Ghosts D) (old : Option Stored) (w : World) (stand st
     grown = left.grown;
     entries = left.entries;
     parted = left.parted;
+    ids = left.ids;
     left = left.left;
     shelf = left.shelf;
     to = left.to;

@@ -24,7 +24,7 @@ use Rattle.kv_model.specs.Reconciling.{each_one}
 use Rattle.reconcile.specs.declared.image.Moved.{Moved}
 use Rattle.reconcile.specs.Moving.{versions_in}
 use Rattle.row_page.specs.Rows.{Row}
-use Rattle.rows_shown.specs.Shows.{shown_at}
+use Rattle.reconcile.specs.Shows.{shown_at}
 use Rattle.stamp.specs.declared.Version.{Version}
 use Rattle.stored.specs.Stored.{Stored}
 use Rattle.tree_dir.specs.declared.leaf.Framed.{Framed}
@@ -40,6 +40,7 @@ use Rattle.ckpt_step.specs.Rooms.{known_in}
 use Rattle.ckpt_step.specs.Stays.{let_go}
 use Rattle.ckpt_step.specs.WritesOut.{NotWritten}
 use Rattle.ckpt_step.proofs.EmptyLeaves.{follows_empty, lives_empty, stands_empty}
+use Rattle.ckpt_step.proofs.KeptGround.{stands_kept}
 use Rattle.ckpt_step.proofs.LedSteps.{may_same}
 use Rattle.ckpt_step.proofs.Members.{none_some, some_same}
 use Rattle.ckpt_step.proofs.TableLeaves.{contains_of}
@@ -156,12 +157,12 @@ module _ {D : Type 0} (g : Ghosts D) (old : Option Stored) (w : World) (e e' : E
     rowless = ap has_rows led ∙ rowless.link;
     left = n.left;
     stands = x.stands cut.may w [] (λ key. []) stands to;
-    on = subst (λ (s : Ground). StandsOn (g.seen disk) (g.may_leave disk) e'.hub s old) (sym x.same) (subst (λ (hub : Hub). StandsOn (g.seen disk) (g.may_leave disk) hub (record stand { parts = stand'.parts }) old) (sym hub_is)
-        (stands_empty (g.seen disk) (g.may_leave disk) e.hub l stands.dir named stand stand'.parts old gone others rowless.part rowless.link rowless.dead rowless.placed n.on));
+    on = subst (λ (s : Ground). StandsOn (g.seen disk) (g.may_leave disk) e'.hub s old) (sym x.same) (stands_kept (g.seen disk) (g.may_leave disk) e'.hub (record stand { parts = stand'.parts }) old stand'.kept (subst (λ (hub : Hub). StandsOn (g.seen disk) (g.may_leave disk) hub (record stand { parts = stand'.parts }) old) (sym hub_is)
+        (stands_empty (g.seen disk) (g.may_leave disk) e.hub l stands.dir named stand stand'.parts old gone others rowless.part rowless.link rowless.dead rowless.placed n.on)));
     follows = subst (λ (s : Ground). Follows old e'.hub s v) (sym x.same) (subst (λ (hub : Hub). Follows old hub (record stand { parts = stand'.parts }) v) (sym hub_is) follows_then);
     since = subst (λ (s : Ground). AreLivesOn (g.seen disk) e'.hub s v) (sym x.same) (subst (λ (hub : Hub). AreLivesOn (g.seen disk) hub (record stand { parts = stand'.parts }) v) (sym hub_is)
         (lives_empty (g.seen disk) e.hub l stands.dir named stand stand'.parts w v.shelf gone others rowless.part rowless.link rowless.dead here still n.since));
-    kept = ap (λ (s : Ground). s.kept) x.same;
+    kept = x.kept;
     forgets = x.gone;
   }
 

@@ -1,8 +1,8 @@
 -- A leaf is evicted to a block of its own: what the next checkpoint has of the leaves that there are then, and which of them were written since.
-use Rattle.std.specs.Prelude.{◌≡◌, ◌≢◌, ℕ, ◌<◌, ◌≤◌, Bool, true, false, ◌==◌, List, [], ◌∷◌, ◌++◌, length, Option, None, Some, if◌then◌else◌, refl}
+use Rattle.std.specs.Prelude.{◌≡◌, ◌≢◌, ℕ, ◌<◌, ◌≤◌, Bool, true, false, List, [], ◌∷◌, ◌++◌, length, Option, None, Some, if◌then◌else◌, refl}
 use Rattle.std.specs.List.{Contains}
 use Rattle.std.proofs.Common.{inl, inr, sym, ◌∙◌, ap, subst, arith}
-use Rattle.std.proofs.lemmas.Bool.{cases_Bool, cases_eq, eq-eqb, false≢true, ne_eqb}
+use Rattle.std.proofs.lemmas.Bool.{cases_eq, eq-eqb, false≢true, ne_eqb}
 use Rattle.block_mgr.specs.Blocks.{Books, HasLive}
 use Rattle.device_layout.specs.declared.link.Link.{Link}
 use Rattle.engine_world.proofs.Homes.{same-id}
@@ -137,7 +137,6 @@ module _ (d : Directory) (l : Leaf) (link : Link) (had has : Written) (lives nex
     pub roots_led : (old : Option Stored) → AreRoots known lives d.leaves had places old → AreRoots known next after has places old
     roots_led None none = none
     roots_led (Some s) roots = record {
-      bare = roots.bare;
       few = roots.few;
       count = roots.count;
       trees = λ i t place at stands. let tree = roots.trees i t place at stands in (tree.0, tree.1, parted_led t.number place tree.0 tree.2);

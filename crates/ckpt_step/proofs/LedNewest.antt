@@ -1,5 +1,5 @@
 -- The rows of a leaf that is evicted are the newest versions of its keys.
-use Rattle.std.specs.Prelude.{◌≡◌, ◌⊎◌, ℕ, List, [], ◌∷◌, ◌++◌, map, Option, Some, None, refl}
+use Rattle.std.specs.Prelude.{◌≡◌, ℕ, List, [], ◌∷◌, ◌++◌, map, Option, Some, None, refl}
 use Rattle.std.specs.List.{Contains}
 use Rattle.std.specs.Option.{option_to_list}
 use Rattle.std.proofs.Common.{inl, inr, sym, ◌∙◌, ap, subst}
@@ -16,7 +16,7 @@ use Rattle.kv_model.proofs.ReconciledKeys.{eviction-stands}
 use Rattle.leaf_chains.specs.Slots.{chain_at}
 use Rattle.leaf_rows.specs.Rows.{AreFit}
 use Rattle.row_page.specs.Rows.{Row}
-use Rattle.rows_shown.specs.Shows.{shown_at}
+use Rattle.reconcile.specs.Shows.{shown_at}
 use Rattle.update_chain.specs.declared.update.Update.{Update}
 use Rattle.update_chain.specs.EventLaws.{StandsFor}
 use Rattle.update_chain.specs.Updates.{update_in}

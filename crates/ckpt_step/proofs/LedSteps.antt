@@ -211,7 +211,7 @@ module _ {D : Type 0} (g : Ghosts D) (before start : D) (looked : Looked g befor
       let_go = subst (λ (b : Books). LetGo b g'.place.blocks (addrs_if (own_of stand.lives (Some l)))) blocks (subst (λ (a : Option Addr). LetGo mid.place.blocks g'.place.blocks (addrs_if a)) former_is gone.blocks)
 
       alike : IsSameBut stand g'
-      alike = record { slot = gone.same.slot ∙ same.slot; number = gone.same.number ∙ same.number; trees = gone.same.trees ∙ same.trees; floor = gone.same.floor ∙ same.floor; kept = gone.same.kept ∙ same.kept }
+      alike = record { slot = gone.same.slot ∙ same.slot; number = gone.same.number ∙ same.number; trees = gone.same.trees ∙ same.trees; floor = gone.same.floor ∙ same.floor; history = gone.same.history ∙ same.history; kept = gone.same.kept ∙ same.kept }
 
       follows_then : Follows old e.hub stand v
       follows_then = again_follows old e.hub stand w e cut.may.framed.frame follows

@@ -10,7 +10,6 @@ use Rattle.stored.specs.Stored.{Stored}
 use Rattle.tree_open.specs.declared.place.TreePlace.{TreePlace}
 use Rattle.ckpt_step.specs.Frees.{without, without_all}
 use Rattle.ckpt_step.specs.Halves.{AreOldBlocks}
-use Rattle.ckpt_step.specs.Lives.{addrs_in}
 use Rattle.ckpt_step.specs.declared.lives.Lone.{Lone}
 use Rattle.ckpt_step.specs.Trees.{addrs_of, kept_by, left_by, placed_by}
 use Rattle.ckpt_step.proofs.SettledCells.{AreLeft}
@@ -107,21 +106,21 @@ kept_in (w ∷ was) [] a there = absurd there
 kept_in (w ∷ was) (None ∷ told) a there = elim (in_either w.addrs.items (addrs_of (kept_by was told)) a there) [ inl here ↦ in_front w.addrs.items (addrs_of (placed_by was told)) a here | inr later ↦ in_back w.addrs.items (addrs_of (placed_by was told)) a (kept_in was told a later) ]
 kept_in (w ∷ was) (Some p ∷ told) a there = in_back p.addrs.items (addrs_of (placed_by was told)) a (kept_in was told a there)
 
--- where those that stay are captured, the others are all that is left of before, with those that were written since
-pub are_left : (old : Option Stored) (lives : List Lone) (captured : List Addr) (was : List TreePlace) (told : List (Option TreePlace)) → AreOldBlocks old lives (addrs_of was ++ addrs_in lives) → ((x : Addr) → Member x (addrs_of (kept_by was told)) → Member x captured)
-    → AreLeft old lives captured (addrs_of (left_by was told) ++ addrs_in lives)
-are_left old lives captured was told are kept = record {
-  each = λ a there. elim (in_either (addrs_of (left_by was told)) (addrs_in lives) a there) [
-    | inl left ↦ are.each a (in_front (addrs_of was) (addrs_in lives) a (left_in was told a left))
-    | inr since ↦ are.each a (in_back (addrs_of was) (addrs_in lives) a since)
+-- where those that stay are captured, the others are all that is left of before, with these more
+pub are_left : (old : Option Stored) (lives : List Lone) (captured : List Addr) (was : List TreePlace) (told : List (Option TreePlace)) (more : List Addr) → AreOldBlocks old lives (addrs_of was ++ more) → ((x : Addr) → Member x (addrs_of (kept_by was told)) → Member x captured)
+    → AreLeft old lives captured (addrs_of (left_by was told) ++ more)
+are_left old lives captured was told more are kept = record {
+  each = λ a there. elim (in_either (addrs_of (left_by was told)) more a there) [
+    | inl left ↦ are.each a (in_front (addrs_of was) more a (left_in was told a left))
+    | inr since ↦ are.each a (in_back (addrs_of was) more a since)
   ];
   all = λ u live nobody.
       let one = are.all u live in
-      elim (in_either (addrs_of was) (addrs_in lives) one.0 one.1) [
-        | inr since ↦ (one.0, in_back (addrs_of (left_by was told)) (addrs_in lives) one.0 since, one.2)
+      elim (in_either (addrs_of was) more one.0 one.1) [
+        | inr since ↦ (one.0, in_back (addrs_of (left_by was told)) more one.0 since, one.2)
         | inl before ↦ elim (either_way was told one.0 before) [
           | inl stays ↦ absurd (nobody one.0 (kept one.0 stays) one.2)
-          | inr left ↦ (one.0, in_front (addrs_of (left_by was told)) (addrs_in lives) one.0 left, one.2)
+          | inr left ↦ (one.0, in_front (addrs_of (left_by was told)) more one.0 left, one.2)
         ]
       ];
 }

@@ -138,7 +138,6 @@ module _ (hub : Hub) (l : Leaf) (dir : IsDirectory hub.dir) (named : leaf_named 
   roots_now : (lives : List Lone) (written : Written) (places : List TreePlace) (old : Option Stored) → AreRoots hub.tables.tables lives leaves written places old → AreRoots hub.tables.tables lives after written places old
   roots_now lives written places None none = none
   roots_now lives written places (Some s) roots = record {
-    bare = roots.bare;
     few = roots.few;
     count = roots.count;
     trees = λ i t place at stands. let tree = roots.trees i t place at stands in (tree.0, tree.1, parted_now lives written t.number place tree.0 tree.2);
@@ -241,6 +240,7 @@ module _ (hub : Hub) (l : Leaf) (dir : IsDirectory hub.dir) (named : leaf_named 
     long = on.long;
     within = on.within;
     roots = roots_now g.lives (known_in g.parts) g.trees.items old on.roots;
+    history = on.history;
     written = written_now (known_in g.parts) unwritten g.lives g.trees.items rows on.written;
     since = since_now old g.lives (known_in g.parts) on.since;
     led = led_now hub.tables.tables g.lives on.led;

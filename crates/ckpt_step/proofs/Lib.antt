@@ -1,13 +1,7 @@
-pub mod KeysPlaced
-pub mod CheckpointsOpen
-pub mod PlainEvents
 pub mod Quiet
 pub mod WholeCalls
 pub mod StepCalls
-pub mod PlainCalls
-pub mod CalmWorlds
 pub mod Ordinary
-pub mod PlainStarts
 pub mod Members
 pub mod Mapped
 pub mod Told
@@ -26,6 +20,8 @@ pub mod Moving
 pub mod Within
 pub mod OneTree
 pub mod Made
+mod HistoryOrder
+mod Bodies
 pub mod Putting
 pub mod Standing
 pub mod Past
@@ -59,9 +55,7 @@ pub mod KeptLists
 pub mod KeptGround
 pub mod MovedApart
 mod LonesIn
-pub mod Unwritten
 pub mod NewParts
-pub mod PartedRows
 pub mod EntryKeys
 pub mod LeafSteps
 mod LettingGo

@@ -37,6 +37,7 @@ stands_looked bytes seen was images hub g old same fewer on = record {
   long = subst (λ (l : List ℕ). 8192 ≤ length l) (sym same) on.long;
   within = subst (λ (l : List ℕ). end_of g.place.blocks.space ≤ length l) (sym same) on.within;
   roots = on.roots;
+  history = on.history;
   written = on.written;
   since = on.since;
   led = on.led;

@@ -1,31 +1,32 @@
 -- The checkpoint that is made of trees by place.
 use Rattle.std.specs.Prelude.{◌≡◌, ℕ, zero, suc, List, [], ◌∷◌, ◌++◌, length, map, Option, Some, option_map, slice_get, refl}
 use Rattle.std.specs.List.{AllByRecursion, flat_map}
-use Rattle.std.proofs.Common.{sym, ◌∙◌, ap, subst, arith}
-use Rattle.std.proofs.lemmas.List.{append-nil, length-map}
+use Rattle.std.proofs.Common.{inl, inr, sym, ◌∙◌, ap, subst, arith}
+use Rattle.std.proofs.lemmas.List.{length-map}
 use Rattle.std.proofs.lemmas.Option.{slice_get-map}
 use Rattle.std.proofs.lemmas.Simd.{map-map}
 use Rattle.block_mgr.specs.Blocks.{Books, Has}
 use Rattle.device_layout.specs.declared.addr.Addr.{Addr}
 use Rattle.kv_model.specs.History.{Table}
+use Rattle.kv_model.specs.Holds.{Member}
 use Rattle.kv_model.specs.Machine.{Machine}
 use Rattle.catalog.specs.Known.{NumbersAscend, by_name}
 use Rattle.catalog.proofs.InOrder.{order_keeps}
 use Rattle.stored.specs.Blocks.{Block, IsAddressed, IsAt, Apart}
-use Rattle.stored.specs.Tree.{IsTree, tree_blocks}
-use Rattle.stored.specs.HistoryTree.{history_kind, HistoryTree, history_root_entry}
+use Rattle.stored.specs.Tree.{join, tree_blocks}
+use Rattle.stored.specs.HistoryTree.{HistoryTree}
 use Rattle.stored.specs.Records.{TableRoot, Root, Record, IsRecord, record_image}
-use Rattle.stored.specs.Stored.{AreTrees, tables_blocks, history_blocks, tables_of}
+use Rattle.stored.specs.Stored.{AreTrees, tables_blocks, tables_of}
 use Rattle.stored.specs.TableTree.{TableTree, root_entry, table_kind}
-use Rattle.stored.proofs.EmptyTrees.{history_empty}
 use Rattle.checkpoint_core.specs.Stands.{AreInUse, IsReady, body_blocks}
 use Rattle.device_leaf.specs.NoHistory.{no_root}
 use Rattle.tree_open.specs.declared.place.TreePlace.{TreePlace}
 use Rattle.tree_open.specs.Trees.{HasTree, IsPlaceOf}
-use Rattle.recover_open.specs.Bare.{IsBare, tree_rows}
-use Rattle.ckpt_step.specs.Checkpoints.{AreRowsOf, IsCheckpointOf, IsRecordOf, IsRowsOf}
+use Rattle.hist_open.specs.Trees.{HasHistory}
+use Rattle.recover_open.specs.Bare.{tree_rows}
+use Rattle.ckpt_content.specs.Checkpoints.{AreRowsOf, IsCheckpointOf, IsHistoryOf, IsRecordOf, IsRowsOf}
 use Rattle.ckpt_step.specs.Grounds.{HasRoots}
-use Rattle.ckpt_step.specs.Halves.{AreParted, TreesKeep}
+use Rattle.ckpt_step.specs.Halves.{AreParted, TreesKeep, made_blocks, older_blocks}
 use Rattle.ckpt_step.specs.Rooms.{Written}
 use Rattle.ckpt_step.specs.Sizes.{KeepsLeaves}
 use Rattle.tree_dir.specs.declared.leaf.Leaf.{Leaf}
@@ -33,11 +34,11 @@ use Rattle.ckpt_step.proofs.Mapped.{map_at}
 use Rattle.ckpt_step.specs.Records.{no_tree, of_number, roots_by_name, trees_by_name}
 use Rattle.ckpt_step.specs.Runs.{made_of}
 use Rattle.ckpt_step.specs.Trees.{AreTreesAt, HasTreeAt, roots_of, table_root, trees_blocks}
-use Rattle.ckpt_step.proofs.Members.{get_member, member_at, none_some, some_same}
-use Rattle.ckpt_step.proofs.OrderedByName.{all_by_name, apart_by_name, by_number, flat_all, flat_by_name, length_by_name}
-
-abbrev no_records : HistoryTree
-no_records = record { layers = []; leaves = [] ∷ [] }
+use Rattle.ckpt_step.proofs.CapturedOrder.{apart_join}
+use Rattle.ckpt_step.proofs.Members.{all_made, all_of, flat_member, get_member, in_back, in_either, in_front, member_at, member_flat, none_some, some_same}
+use Rattle.ckpt_step.proofs.OrderedByName.{all_by_name, apart_by_name, by_number, flat_all, length_by_name}
+use Rattle.ckpt_step.proofs.Pairs.{apart_across, apart_back, apart_front}
+use Rattle.ckpt_step.proofs.PlacedTrees.{all_both}
 
 -- ---- by roots
 
@@ -162,37 +163,50 @@ module _ (known : List Table) (next : ℕ) (ascend : NumbersAscend 1 known next)
   pub tree_is : (i : ℕ) (t : Table) (tree : TableTree) → slice_get known i ≡ Some t → slice_get trees i ≡ Some tree → tree_at t ≡ tree
   tree_is i t tree at stands = some_same (sym (slice_get-map tree_at known i ∙ ap (λ (o : Option Table). option_map tree_at o) at) ∙ (ap (λ (l : List TableTree). slice_get l i) trees_are ∙ stands))
 
-  module _ (r : Record) (a : Addr) (bare : IsBare r) (tables : r.tables ≡ roots_by_name known (roots_of places)) where
-    no_history : history_blocks r no_records ≡ []
-    no_history = ap (λ (h : Root). tree_blocks history_kind (history_root_entry h.link) no_records) bare
-
+  module _ (r : Record) (history : HistoryTree) (a : Addr) (tables : r.tables ≡ roots_by_name known (roots_of places)) where
     pub tables_are : tables_blocks r.tables (trees_by_name known trees) ≡ flat_map table_blocks (by_name known)
     tables_are = ap (λ (l : List TableRoot). tables_blocks l (trees_by_name known trees)) tables ∙ tables_blocks_are root_at tree_at (by_name known)
 
-    pub body_are : body_blocks (made_of r known trees a) ≡ flat_map table_blocks (by_name known)
-    body_are = ap (λ (l : List Block). tables_blocks r.tables (trees_by_name known trees) ++ l) no_history ∙ append-nil (tables_blocks r.tables (trees_by_name known trees)) ∙ tables_are
+    abbrev older : List Block
+    older = older_blocks r.history history
 
-    pub made_ready : (image : List ℕ) (books : Books) → IsRecord r → image ≡ record_image r → AreInUse books.cells (trees_blocks places trees) → Apart (trees_blocks places trees) → IsReady bytes books image (made_of r known trees a)
-    made_ready image books admitted spelled in_use apart = record {
+    abbrev named : List Block
+    named = flat_map table_blocks (by_name known)
+
+    body_are : body_blocks (made_of r known trees history a) ≡ named ++ older
+    body_are = ap (λ (l : List Block). l ++ older) tables_are
+
+    -- the blocks of the tables are as many, in the order of names or in that of places
+    named_in : (b : Block) → Member b named → Member b (trees_blocks places trees)
+    named_in b there =
+        let t = member_flat table_blocks (by_name known) b there in
+        subst (λ (l : List Block). Member b l) (sym all_blocks) (flat_member table_blocks t.0 known b ((order_keeps known t.0).0 t.1) t.2)
+
+    pub made_ready : (image : List ℕ) (books : Books) → IsRecord r → image ≡ record_image r → HasHistory bytes r.history history → AreInUse books.cells (made_blocks places trees r.history history) → Apart (made_blocks places trees r.history history) → IsReady bytes books image (made_of r known trees history a)
+    made_ready image books admitted spelled has in_use apart = record {
       is_record = admitted;
       is_image = spelled;
       trees = subst (λ (l : List TableRoot). AreTrees l (trees_by_name known trees)) (sym tables) (trees_of root_at tree_at bytes (by_name known) by_name_each);
-      history = subst (λ (h : Root). IsTree history_kind h.level (history_root_entry h.link) no_records) (sym bare) history_empty;
-      addressed = subst (λ (l : List Block). AllByRecursion (λ (b : Block). IsAddressed b) l) (sym body_are) (flat_all table_blocks (λ (b : Block). IsAddressed b) (by_name known) (addressed_each root_at tree_at bytes (by_name known) by_name_each));
-      apart = subst Apart (sym body_are) (apart_by_name table_blocks known (subst Apart all_blocks apart));
-      holds = subst (λ (l : List Block). AllByRecursion (λ (b : Block). IsAt bytes b) l) (sym body_are) (flat_all table_blocks (λ (b : Block). IsAt bytes b) (by_name known) (held_each root_at tree_at bytes (by_name known) by_name_each));
-      in_use = subst (λ (l : List Block). AreInUse books.cells l) (sym body_are) (flat_by_name table_blocks (λ (b : Block). Has books.cells b.place.offset b.place.size) known (subst (λ (l : List Block). AreInUse books.cells l) all_blocks in_use));
+      history = has.is;
+      addressed = subst (λ (l : List Block). AllByRecursion (λ (b : Block). IsAddressed b) l) (sym body_are) (all_both (λ (b : Block). IsAddressed b) named older (flat_all table_blocks (λ (b : Block). IsAddressed b) (by_name known) (addressed_each root_at tree_at bytes (by_name known) by_name_each)) has.addressed);
+      apart = subst Apart (sym body_are) (apart_join named older (apart_by_name table_blocks known (subst Apart all_blocks (apart_front (trees_blocks places trees) older apart))) (apart_back (trees_blocks places trees) older apart) (λ b c there also. apart_across (trees_blocks places trees) older b c apart (named_in b there) also));
+      holds = subst (λ (l : List Block). AllByRecursion (λ (b : Block). IsAt bytes b) l) (sym body_are) (all_both (λ (b : Block). IsAt bytes b) named older (flat_all table_blocks (λ (b : Block). IsAt bytes b) (by_name known) (held_each root_at tree_at bytes (by_name known) by_name_each)) has.holds);
+      in_use = subst (λ (l : List Block). AreInUse books.cells l) (sym body_are) (all_made (λ (b : Block). Has books.cells b.place.offset b.place.size) (named ++ older) (λ b there.
+          all_of (λ (x : Block). Has books.cells x.place.offset x.place.size) (made_blocks places trees r.history history) b in_use (elim (in_either named older b there) [
+            | inl own ↦ in_front (trees_blocks places trees) older b (named_in b own)
+            | inr its ↦ in_back (trees_blocks places trees) older b its
+          ])));
     }
 
-    pub made_is : (m : Machine) (number : ℕ) → IsRecordOf m number r → AreRowsOf m known trees → IsCheckpointOf m number (made_of r known trees a)
-    made_is m number is are = record {
+    pub made_is : (m : Machine) (number : ℕ) → IsRecordOf m number r → AreRowsOf m known trees → IsHistoryOf m (join history.leaves) → IsCheckpointOf m number (made_of r known trees history a)
+    made_is m number is are its = record {
       names = is;
-      bare = refl;
+      history = its;
       rows = subst (λ (l : List Table). AreRowsOf m l (trees_by_name known trees)) (sym (ap tables_of tables ∙ tables_of_roots known (roots_of places))) (rows_by_name m are);
     }
 
     -- the tree of a table is that of the checkpoint
-    pub made_tree : (i : ℕ) (t : Table) (p : TreePlace) → slice_get known i ≡ Some t → slice_get places i ≡ Some p → (tree : TableTree) × (slice_get trees i ≡ Some tree) × HasTreeAt (Some (made_of r known trees a)) t p tree
+    pub made_tree : (i : ℕ) (t : Table) (p : TreePlace) → slice_get known i ≡ Some t → slice_get places i ≡ Some p → (tree : TableTree) × (slice_get trees i ≡ Some tree) × HasTreeAt (Some (made_of r known trees history a)) t p tree
     made_tree i t p at stands =
         let one = tree_there bytes places trees i p there stands in
         let j = member_at t (by_name known) ((order_keeps known t).1 (get_member known i t at)) in
@@ -203,7 +217,7 @@ module _ (known : List Table) (next : ℕ) (ascend : NumbersAscend 1 known next)
         (one.0, one.1, ((j.0, root, tree), one.3))
 
     -- the tree that the checkpoint has of a table is that of the table's place
-    pub made_at : (i : ℕ) (t : Table) (p : TreePlace) (tree : TableTree) → slice_get known i ≡ Some t → slice_get places i ≡ Some p → HasTreeAt (Some (made_of r known trees a)) t p tree → slice_get trees i ≡ Some tree
+    pub made_at : (i : ℕ) (t : Table) (p : TreePlace) (tree : TableTree) → slice_get known i ≡ Some t → slice_get places i ≡ Some p → HasTreeAt (Some (made_of r known trees history a)) t p tree → slice_get trees i ≡ Some tree
     made_at i t p tree at stands has =
         let u = map_at (λ (x : Table). table_root x (root_at x)) (by_name known) has.0.0 (table_root t p.root) (ap (λ (l : List TableRoot). slice_get l has.0.0) (sym tables) ∙ has.0.1) in
         let x = map_at tree_at (by_name known) has.0.0 tree has.0.2 in
@@ -211,14 +225,13 @@ module _ (known : List Table) (next : ℕ) (ascend : NumbersAscend 1 known next)
         let one = tree_there bytes places trees i p there stands in
         one.1 ∙ ap (λ (y : TableTree). Some y) (sym (tree_is i t one.0 at one.1) ∙ (ap tree_at same ∙ x.2))
 
-    pub made_roots : (leaves : List Leaf) (written : Written) → AreParted known leaves written places trees → HasRoots known [] leaves written places (made_of r known trees a)
+    pub made_roots : (leaves : List Leaf) (written : Written) → AreParted known leaves written places trees → HasRoots known [] leaves written places (made_of r known trees history a)
     made_roots leaves written parted = record {
-      bare = bare;
       few = omega (arith, count);
       count = ap length tables ∙ (length-map (by_name known) (λ (t : Table). table_root t (of_number no_root known (roots_of places) t.number)) ∙ (length_by_name known ∙ sym count));
       trees = λ i t p at stands. let one = made_tree i t p at stands in (one.0, one.2, parted i t p one.0 at stands one.1);
     }
 
     -- an image that did not change keeps its block
-    pub made_keeps : (seen : List ℕ) (leaves : List Leaf) (before written : Written) → TreesKeep seen known leaves before places trees written → KeepsLeaves seen known leaves before (made_of r known trees a) places written
+    pub made_keeps : (seen : List ℕ) (leaves : List Leaf) (before written : Written) → TreesKeep seen known leaves before places trees written → KeepsLeaves seen known leaves before (made_of r known trees history a) places written
     made_keeps seen leaves before written keep i t p tree l at stands has mine its = keep i t p tree l at stands (made_at i t p tree at stands has) mine its

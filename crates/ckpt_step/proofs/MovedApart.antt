@@ -1,8 +1,8 @@
 -- What the history has of the leaves that took the place of one that parted.
-use Rattle.std.specs.Prelude.{◌≡◌, ◌≢◌, ℕ, ◌==◌, ◌<◌, ◌≤◌, ◌++◌, true, false, List, [], ◌∷◌, map, filter, bytes_eq, Option, Some, None, if◌then◌else◌, refl}
+use Rattle.std.specs.Prelude.{◌≡◌, ◌≢◌, ◌⊎◌, ℕ, ◌==◌, ◌<◌, ◌≤◌, ◌++◌, true, false, List, [], ◌∷◌, map, filter, bytes_eq, Option, Some, None, refl}
 use Rattle.std.specs.List.{Contains}
 use Rattle.std.proofs.Common.{inl, inr, sym, ◌∙◌, ap, subst, arith}
-use Rattle.std.proofs.lemmas.Bool.{cases_Bool, eq-eqb, eqb-true}
+use Rattle.std.proofs.lemmas.Bool.{cases_Bool, cases_lt, eq-eqb, eqb-true}
 use Rattle.std.proofs.lemmas.List.{append-nil, map-append}
 use Rattle.std.proofs.lemmas.List.Elements.{filter-append}
 use Rattle.std.proofs.lemmas.Slice.Eq.{bytes_eq-Decides}
@@ -15,9 +15,11 @@ use Rattle.row_page.specs.Rows.{Row}
 use Rattle.tree_dir.specs.declared.leaf.Leaf.{Leaf}
 use Rattle.tree_dir.specs.GivingWay.{StandFor}
 use Rattle.tree_dir.specs.Leaves.{Directory, IsDirectory, leaf_under}
-use Rattle.engine_world.proofs.Homes.{LiesIn, lies-or-not, same-id}
+use Rattle.engine_world.proofs.Homes.{lies-or-not, same-id}
 use Rattle.engine_world.specs.Worlds.{Records, World}
-use Rattle.evict_step.specs.Kept.{KeepsMore, KeepsThese, Lists, lies_in, list_of, lying_in, records_in, with_moved}
+use Rattle.evict_step.specs.Backs.{AreNewestFirst}
+use Rattle.evict_step.specs.Kept.{KeepsMore, KeepsThese, Lists, but_rows, lies_in, list_of, lying_in, with_moved}
+use Rattle.evict_step.proofs.Again.{but_all, none_of}
 use Rattle.ckpt_step.proofs.Members.{some_same}
 use Rattle.ckpt_step.proofs.TableLeaves.{contains_of, under_in}
 
@@ -123,8 +125,38 @@ module _ (old next : Directory) (l : Leaf) (made : List Leaf) (stand : StandFor 
 
 -- ---- what is kept of it
 
--- where the history was kept, so it is then
-pub keeps_more : (w : World) (before lists : Lists) (leaves : List Leaf) (table : ℕ) (moved : List Moved) (shelf : ℕ → List Row) → KeepsThese w before → KeepsMore before lists (lying_in leaves table moved) → KeepsThese (record w { shelf = shelf; records = with_moved leaves table moved w.records }) lists
-keeps_more w before lists leaves table moved shelf keeps more leaf key =
-    ap (λ (vs : List (Version Change)). vs ++ versions_in key (lying_in leaves table moved leaf)) (keeps leaf key)
-    ∙ (sym (versions-append key (list_of before leaf) (lying_in leaves table moved leaf)) ∙ ap (versions_in key) (sym (more leaf)))
+-- of a list behind another one nothing is there that adds nothing
+adds_none : (a b : List (Version Change)) → a ++ b ≡ a → b ≡ []
+adds_none [] b same = same
+adds_none (v ∷ a) b same = adds_none a b (let rest : v ∷ (a ++ b) ≡ v ∷ a = same in cc)
+
+-- Where the history was kept, so it is then. n: the id that came next before; first: of new leaves what is kept lies below the rows.
+pub keeps_more : (w : World) (before lists : Lists) (leaves : List Leaf) (table : ℕ) (moved : List Moved) (shelf : ℕ → List Row) (n : ℕ) → KeepsThese w before → KeepsMore before lists (lying_in leaves table moved) → ((id : ℕ) → id < n → shelf id ≡ w.shelf id)
+    → ((id : ℕ) → id < n → (key : List ℕ) → with_moved leaves table moved w.records id key ≡ w.records id key) → ((id : ℕ) → n ≤ id → list_of before id ≡ []) → ((id : ℕ) → n ≤ id → AreNewestFirst (shelf id) (lying_in leaves table moved id))
+    → KeepsThese (record w { shelf = shelf; records = with_moved leaves table moved w.records }) lists
+keeps_more w before lists leaves table moved shelf n keeps more others still none first id key = elim (cases_lt id n) [
+  | inl less ↦ still id less key ∙ (keeps id key ∙ ap (versions_in key) (ap (λ (rows : List Row). but_rows rows (list_of before id)) (sym (others id less)) ∙ ap (but_rows (shelf id)) (sym (listed_still id less))))
+  | inr late ↦
+      let nothing : w.records id key ≡ [] = keeps id key ∙ ap (λ (l : List Moved). versions_in key (but_rows (w.shelf id) l)) (none id late) in
+      ap (λ (vs : List (Version Change)). vs ++ versions_in key (lying_in leaves table moved id)) nothing
+      ∙ ap (versions_in key) (sym (ap (but_rows (shelf id)) (listed_new id late) ∙ but_all (shelf id) (lying_in leaves table moved id) (first id late)))
+]
+  where
+    -- nothing comes to a leaf that was there
+    listed_still : (id : ℕ) → id < n → list_of lists id ≡ list_of before id
+    listed_still id less =
+        let nothing : lying_in leaves table moved id ≡ [] = none_of (lying_in leaves table moved id) (λ key. adds_none (w.records id key) (versions_in key (lying_in leaves table moved id)) (still id less key)) in
+        more id ∙ (ap (λ (l : List Moved). list_of before id ++ l) nothing ∙ append-nil (list_of before id))
+
+    listed_new : (id : ℕ) → n ≤ id → list_of lists id ≡ lying_in leaves table moved id
+    listed_new id late = more id ∙ ap (λ (l : List Moved). l ++ lying_in leaves table moved id) (none id late)
+
+-- what lies in a leaf of an id is of one that is there, or there is nothing
+pub lying_leaf : (leaves : List Leaf) (table : ℕ) (moved : List Moved) (id : ℕ) → (lying_in leaves table moved id ≡ []) ⊎ ((l : Leaf) × Contains leaves l × (l.id ≡ id))
+lying_leaf leaves table [] id = inl refl
+lying_leaf leaves table (m ∷ moved) id = elim (cases_Bool (lies_in leaves table id m.key)) [
+  | inl lies ↦
+      let at = lies_at leaves table id m.key lies in
+      inr (at.leaf, contains_of leaves at.leaf (under_in table m.key leaves at.leaf at.under).0, at.is)
+  | inr away ↦ (let rest = lying_leaf leaves table moved id in rw away rest)
+]

@@ -1,6 +1,6 @@
 -- The blocks of the checkpoint before are in use while a block that it has not is let go of.
-use Rattle.std.specs.Prelude.{◌≡◌, ℕ, ◌*◌, List, [], ◌∷◌, ◌++◌, length, Option, None, Some, refl}
-use Rattle.std.proofs.Common.{inl, inr, sym, ◌∙◌, ap, subst, arith}
+use Rattle.std.specs.Prelude.{◌≡◌, ℕ, ◌*◌, List, Option, None, Some}
+use Rattle.std.proofs.Common.{inl, inr, sym, ◌∙◌, ap, subst}
 use Rattle.std.proofs.lemmas.Bool.{false≢true}
 use Rattle.block_mgr.specs.declared.cell.Cell.{Cell}
 use Rattle.block_mgr.specs.Blocks.{Has}
@@ -9,39 +9,20 @@ use Rattle.block_mgr.specs.Open.{found_cell}
 use Rattle.device_layout.specs.declared.addr.Addr.{Addr}
 use Rattle.device_layout.specs.Slots.{addr_in}
 use Rattle.kv_model.specs.Holds.{Member}
-use Rattle.device_leaf.specs.NoHistory.{no_root}
 use Rattle.stored.specs.Blocks.{Block}
-use Rattle.stored.specs.HistoryTree.{HistoryEntry, HistoryRecord, HistoryTree, history_kind, history_root_entry}
-use Rattle.stored.specs.Records.{Root}
-use Rattle.stored.specs.Stored.{Stored, history_blocks, tables_blocks}
-use Rattle.stored.specs.Tree.{AllBear, IsTree, Layer, bottom, inner_blocks, leaf_blocks, tree_blocks}
-use Rattle.checkpoint_core.specs.Stands.{AreInUse, HasStill, blocks_of}
-use Rattle.recover_open.specs.Bare.{IsBare}
+use Rattle.stored.specs.Stored.{Stored}
+use Rattle.checkpoint_core.specs.Stands.{AreInUse, HasStill, blocks_of, body_blocks}
 use Rattle.ckpt_step.specs.Frees.{without}
 use Rattle.ckpt_step.specs.Grounds.{found_in}
 use Rattle.ckpt_step.proofs.Cells.{Begins, begins_or_not, found_is, found_of, start-record}
 use Rattle.ckpt_step.proofs.Frees.{elsewhere}
-use Rattle.ckpt_step.proofs.Members.{all_made, all_of, in_either}
-
--- ---- a checkpoint without a history
-
-none_stored : (layers : List (Layer HistoryEntry)) (leaves : List (List HistoryRecord)) → length layers ≡ 0 → AllBear history_kind (bottom (history_root_entry no_root.link ∷ []) layers) leaves
-    → inner_blocks history_kind (history_root_entry no_root.link ∷ []) layers ++ leaf_blocks history_kind (bottom (history_root_entry no_root.link ∷ []) layers) leaves ≡ []
-none_stored [] [] low bear = absurd bear
-none_stored [] (records ∷ []) low bear = refl
-none_stored [] (records ∷ more ∷ leaves) low bear = absurd bear.1
-none_stored (layer ∷ layers) leaves low bear = absurd (omega (arith, low))
-
-no_history : (root : Root) (tree : HistoryTree) → root ≡ no_root → IsTree history_kind root.level (history_root_entry root.link) tree → tree_blocks history_kind (history_root_entry root.link) tree ≡ []
-no_history root tree bare is =
-    let own : IsTree history_kind 0 (history_root_entry no_root.link) tree = subst (λ (r : Root). IsTree history_kind r.level (history_root_entry r.link) tree) bare is in
-    ap (λ (r : Root). tree_blocks history_kind (history_root_entry r.link) tree) bare ∙ none_stored tree.layers tree.leaves own.levels own.bear
+use Rattle.ckpt_step.proofs.Members.{all_made, all_of}
 
 -- ---- where one of its blocks begins an opening finds one
 
-module _ (s : Stored) (bare : IsBare s.kept) (history : IsTree history_kind s.kept.history.level (history_root_entry s.kept.history.link) s.history) where
-  in_tables : (u : ℕ) (b : Block) → Member b (tables_blocks s.kept.tables s.trees) → Begins u b.place → found_cell (found_in (Some s)) u ≡ nothing → ⊥
-  in_tables u b there at none = elim (found_of u s) [
+module _ (s : Stored) where
+  in_body : (u : ℕ) (b : Block) → Member b (body_blocks s) → Begins u b.place → found_cell (found_in (Some s)) u ≡ nothing → ⊥
+  in_body u b there at none = elim (found_of u s) [
     | inl one ↦ false≢true (ap (λ (c : Cell). c.is_live) (sym none ∙ (found_is u s ∙ one.cell)))
     | inr nobody ↦ nobody.none b there at
   ]
@@ -54,10 +35,7 @@ module _ (s : Stored) (bare : IsBare s.kept) (history : IsTree history_kind s.ke
 
   pub found_there : (u : ℕ) (b : Block) → Member b (blocks_of (Some s)) → Begins u b.place → found_cell (found_in (Some s)) u ≡ nothing → ⊥
   found_there u b (inl same) at none = of_record u (subst (λ (x : Block). Begins u x.place) same at) none
-  found_there u b (inr later) at none = elim (in_either (tables_blocks s.kept.tables s.trees) (history_blocks s.kept s.history) b later) [
-    | inl own ↦ in_tables u b own at none
-    | inr past ↦ subst (λ (l : List Block). Member b l) (no_history s.kept.history s.history bare history) past
-  ]
+  found_there u b (inr later) at none = in_body u b later at none
 
 -- ---- one is let go of that is none of its blocks
 
@@ -73,7 +51,7 @@ used_less old cells less x found none goes used = all_made (λ (b : Block). Has 
           (u, at, subst (λ (c : Cell). b.place.size ≡ 4096 * c.units) (sym same) size, ap is_used same ∙ is)
     ]
 
-pub in_use_less : (seen : List ℕ) (old : Option Stored) (cells less : List Cell) (x : Addr) → HasStill old seen → ((s : Stored) → old ≡ Some s → IsBare s.kept) → ((u : ℕ) → Begins u x → found_cell (found_in old) u ≡ nothing)
+pub in_use_less : (seen : List ℕ) (old : Option Stored) (cells less : List Cell) (x : Addr) → HasStill old seen → ((u : ℕ) → Begins u x → found_cell (found_in old) u ≡ nothing)
     → ((u : ℕ) → cell_at less u ≡ without u (cell_at cells u) x) → AreInUse cells (blocks_of old) → AreInUse less (blocks_of old)
-in_use_less seen None cells less x still bare none goes used = tt
-in_use_less seen (Some s) cells less x still bare none goes used = used_less (Some s) cells less x (found_there s (bare s refl) still.whole.history) none goes used
+in_use_less seen None cells less x still none goes used = tt
+in_use_less seen (Some s) cells less x still none goes used = used_less (Some s) cells less x (found_there s) none goes used

@@ -20,11 +20,11 @@ use Rattle.stored.specs.Records.{TableRoot}
 use Rattle.stored.specs.Stored.{Stored, history_blocks, stored_blocks, tables_blocks}
 use Rattle.stored.specs.TableTree.{Entry, TableTree, root_entry, table_kind}
 use Rattle.stored.specs.Tree.{bottom, inner_blocks, leaf_blocks, tree_blocks}
-use Rattle.checkpoint_core.specs.Stands.{Stands}
+use Rattle.checkpoint_core.specs.Stands.{Stands, body_blocks}
 use Rattle.tree_open.specs.declared.place.TreePlace.{TreePlace}
 use Rattle.tree_open.specs.Trees.{HasTree, IsPlaceOf, places as places_in, root_own}
 use Rattle.tree_write.specs.Writes.{IsLiveLeaf, LeadApart}
-use Rattle.ckpt_step.specs.Grounds.{AreLone, AreRoots, HasRoots, found_in, start_cell}
+use Rattle.ckpt_step.specs.Grounds.{AreLone, AreRoots, HasRoots, found_in, history_places, start_cell}
 use Rattle.ckpt_step.specs.Halves.{AreOldBlocks, IsOldBlock, body_cell}
 use Rattle.ckpt_step.specs.Lives.{addrs_in}
 use Rattle.ckpt_step.specs.declared.lives.Lone.{Lone}
@@ -151,9 +151,9 @@ module _ (seen : List ℕ) (images : List ℕ → Type 0) (books : Books) (known
 
   -- ---- each is an old block
 
-  old_body : (b : Block) → Member b blocks → IsBody (Some s) b.place
+  old_body : (b : Block) → Member b (body_blocks s) → IsBody (Some s) b.place
   old_body b there =
-      let used = has b there in
+      let used = all_of (λ (x : Block). Has books.cells x.place.offset x.place.size) (stored_blocks s) b stands.in_use (inr there) in
       elim (found_of used.0 s) [
         | inr none ↦ absurd (none.none b there used.1)
         | inl one ↦
@@ -168,7 +168,16 @@ module _ (seen : List ℕ) (images : List ℕ → Type 0) (books : Books) (known
       ]
 
   body_addr : (i : ℕ) (p : TreePlace) (a : Addr) → slice_get places i ≡ Some p → Member a p.addrs.items → IsBody (Some s) a
-  body_addr i p a is there = let one = listed i p a is there in subst (λ (x : Addr). IsBody (Some s) x) (sym one.place) (old_body one.block (in_blocks i p a one))
+  body_addr i p a is there = let one = listed i p a is there in subst (λ (x : Addr). IsBody (Some s) x) (sym one.place) (old_body one.block (in_front blocks (history_blocks s.kept s.history) one.block (in_blocks i p a one)))
+
+  -- those of the history
+  abbrev past : List Addr
+  past = history_places (Some s)
+
+  past_old : (a : Addr) → Member a past → IsOldBlock (Some s) lives a
+  past_old a there =
+      let b = member_map {A = Block} (λ x. x.place) a (history_blocks s.kept s.history) there in
+      body_old (Some s) lives lone a (subst (λ (x : Addr). IsBody (Some s) x) (sym b.2) (old_body b.0 (in_back blocks (history_blocks s.kept s.history) b.0 b.1)))
 
   old_addr : (i : ℕ) (p : TreePlace) (a : Addr) → slice_get places i ≡ Some p → Member a p.addrs.items → IsOldBlock (Some s) lives a
   old_addr i p a is there = body_old (Some s) lives lone a (body_addr i p a is there)
@@ -219,32 +228,47 @@ module _ (seen : List ℕ) (images : List ℕ → Type 0) (books : Books) (known
         is = subst (λ (x : TableTree). IsPlaceOf z.place x) same other.1.1;
       }
 
-  tree_at_unit : (u : ℕ) → (found_cell (found_in (Some s)) u).is_live ≡ true → (a : Addr) × Member a (addrs_of places) × (a.offset ≡ 8192 + 4096 * u)
-  tree_at_unit u live = elim (found_of u s) [
+  of_tree : (b : Block) → Member b blocks → Member b.place (addrs_of places)
+  of_tree b there =
+      let of = block_of tables s.trees b there in
+      let where_it = stood of.root of.tree of.pair in
+      let own : Member b.place where_it.place.addrs.items =
+      subst (λ (l : List Addr). Member b.place l) (sym where_it.is.addrs)
+      (map_member {A = Block} (λ x. x.place) b (tree_blocks table_kind (root_entry where_it.place.root.link) of.tree) (subst (λ (x : TableRoot). Member b (root_blocks x of.tree)) where_it.root of.own)) in
+      flat_member {A = TreePlace} (λ q. q.addrs.items) where_it.place places b.place (get_member places where_it.index where_it.place where_it.place_at) own
+
+  block_at_unit : (u : ℕ) → (found_cell (found_in (Some s)) u).is_live ≡ true → (a : Addr) × Member a (addrs_of places ++ (past ++ addrs_in lives)) × (a.offset ≡ 8192 + 4096 * u)
+  block_at_unit u live = elim (found_of u s) [
     | inr none ↦ absurd (false≢true (sym (start_dead u s) ∙ (ap (λ (c : Cell). c.is_live) (sym (found_is u s ∙ none.cell)) ∙ live)))
-    | inl one ↦
-        let of = block_of tables s.trees one.block one.there in
-        let where_it = stood of.root of.tree of.pair in
-        let own : Member one.block.place where_it.place.addrs.items =
-        subst (λ (l : List Addr). Member one.block.place l) (sym where_it.is.addrs)
-        (map_member {A = Block} (λ b. b.place) one.block (tree_blocks table_kind (root_entry where_it.place.root.link) of.tree) (subst (λ (x : TableRoot). Member one.block (root_blocks x of.tree)) where_it.root of.own)) in
-        (one.block.place, flat_member {A = TreePlace} (λ q. q.addrs.items) where_it.place places one.block.place (get_member places where_it.index where_it.place where_it.place_at) own, one.at)
+    | inl one ↦ elim (in_either blocks (history_blocks s.kept s.history) one.block one.there) [
+      | inl own ↦ (one.block.place, in_front (addrs_of places) (past ++ addrs_in lives) one.block.place (of_tree one.block own), one.at)
+      | inr older ↦ (
+        one.block.place,
+        in_back (addrs_of places) (past ++ addrs_in lives) one.block.place (in_front past (addrs_in lives) one.block.place (map_member {A = Block} (λ x. x.place) one.block (history_blocks s.kept s.history) older)),
+        one.at,
+      )
+    ]
   ]
 
-  pub old_blocks : AreOldBlocks (Some s) lives (addrs_of places ++ addrs_in lives)
+  pub old_blocks : AreOldBlocks (Some s) lives (addrs_of places ++ (past ++ addrs_in lives))
   old_blocks = record {
-    each = λ a there. elim (in_either (addrs_of places) (addrs_in lives) a there) [
+    each = λ a there. elim (in_either (addrs_of places) (past ++ addrs_in lives) a there) [
       | inl before ↦
           let p = member_flat {A = TreePlace} (λ q. q.addrs.items) places a before in
           let i = member_at p.0 places p.1 in
           old_addr i.0 p.0 a i.1 p.2
-      | inr since ↦ since_old (Some s) lives lone a since
+      | inr behind ↦ elim (in_either past (addrs_in lives) a behind) [
+        | inl older ↦ past_old a older
+        | inr since ↦ since_old (Some s) lives lone a since
+      ]
     ];
     all = λ u live. elim (which_lone u lives) [
-      | inl one ↦ (one.lone.addr, in_back (addrs_of places) (addrs_in lives) one.lone.addr (map_member {A = Lone} (λ x. x.addr) one.lone lives one.there), one.at)
-      | inr none ↦
-          let one = tree_at_unit u (ap (λ (c : Cell). c.is_live) (sym (none.cell (found_cell (found_in (Some s)) u))) ∙ live) in
-          (one.0, in_front (addrs_of places) (addrs_in lives) one.0 one.1, one.2)
+      | inl one ↦ (
+        one.lone.addr,
+        in_back (addrs_of places) (past ++ addrs_in lives) one.lone.addr (in_back past (addrs_in lives) one.lone.addr (map_member {A = Lone} (λ x. x.addr) one.lone lives one.there)),
+        one.at,
+      )
+      | inr none ↦ block_at_unit u (ap (λ (c : Cell). c.is_live) (sym (none.cell (found_cell (found_in (Some s)) u))) ∙ live)
     ];
   }
 
@@ -314,7 +338,7 @@ module _ (seen : List ℕ) (images : List ℕ → Type 0) (books : Books) (known
   nowhere_at : places ≡ [] → (i : ℕ) → leaves_at places i ≡ []
   nowhere_at none i = leaves_past places i (omega (arith, ap length none))
 
-  pub are_old_blocks : (old : Option Stored) → Stands seen images books old → AreRoots known lives leaves written places old → AreLone old lives → ((u : ℕ) → cell_at books.cells u ≡ start_cell old lives u) → AreUnits books.cells books.space → AreOldBlocks old lives (addrs_of places ++ addrs_in lives)
+  pub are_old_blocks : (old : Option Stored) → Stands seen images books old → AreRoots known lives leaves written places old → AreLone old lives → ((u : ℕ) → cell_at books.cells u ≡ start_cell old lives u) → AreUnits books.cells books.space → AreOldBlocks old lives (addrs_of places ++ (history_places old ++ addrs_in lives))
   are_old_blocks None stands none lone cells units = record {
     each = λ a there. elim (in_either (addrs_of places) (addrs_in lives) a there) [
       | inl before ↦ absurd (subst (λ (l : List TreePlace). Member a (addrs_of l)) none before)

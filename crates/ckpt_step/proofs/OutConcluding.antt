@@ -2,7 +2,7 @@
 use Rattle.std.specs.Prelude.{◌≡◌, ◌≢◌, ℕ, ◌≤◌, List, [], ◌++◌, Option, None, Some, IfSome, refl}
 use Rattle.std.specs.List.{Contains}
 use Rattle.std.specs.Option.{option_to_list}
-use Rattle.std.proofs.Common.{sym, ◌∙◌, ap, subst, arith}
+use Rattle.std.proofs.Common.{sym, ◌∙◌, ap, subst}
 use Rattle.disk_model.specs.declared.disk.Disk.{Ghosts}
 use Rattle.engine.specs.Evictions.{MayBeEvicted}
 use Rattle.engine.specs.Partings.{HasParted, MayPart}
@@ -26,7 +26,7 @@ use Rattle.reconcile.specs.declared.image.Image.{Image}
 use Rattle.reconcile.specs.declared.image.Moved.{Moved}
 use Rattle.reconcile.specs.Moving.{versions_in}
 use Rattle.row_page.specs.Rows.{Row}
-use Rattle.rows_shown.specs.Shows.{shown_at}
+use Rattle.reconcile.specs.Shows.{shown_at}
 use Rattle.stamp.specs.declared.Version.{Version}
 use Rattle.stored.specs.Stored.{Stored}
 use Rattle.call_steps.specs.declared.frame.Frame.{Frame}
@@ -116,6 +116,7 @@ module _ {D : Type 0} (g : Ghosts D) (old : Option Stored) (w : World) (stand st
   written_idle put idle are durable = record {
     entries = put.entries;
     way = put.way;
+    ids = put.shelved.stand.ids;
     left = put.left;
     still = record { shelf = put.shelf; shelved = shelved; on = put.on; follows = put.follows; since = put.since };
     stands = put.stands put.way w put.shelf stands idle shelved;
@@ -152,6 +153,7 @@ module _ {D : Type 0} (g : Ghosts D) (old : Option Stored) (w : World) (stand st
       grown = grown;
       entries = put.entries;
       parted = parted;
+      ids = put.shelved.stand.ids;
       left = put.left;
       shelf = put.shelf;
       to = is;

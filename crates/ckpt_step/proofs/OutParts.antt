@@ -117,7 +117,6 @@ module _ (d n : Directory) (l : Leaf) (entries : List Entry) (ids : List ℕ) (h
     pub roots_out : (old : Option Stored) → AreRoots known lives d.leaves had places old → AreRoots known next n.leaves has places old
     roots_out None none = none
     roots_out (Some s) roots = record {
-      bare = roots.bare;
       few = roots.few;
       count = roots.count;
       trees = λ i t place at stands. let tree = roots.trees i t place at stands in (tree.0, tree.1, parted_out first new_first t.number place tree.0 tree.2);

@@ -11,7 +11,7 @@ use Rattle.item.specs.declared.Change.{Change}
 use Rattle.leaf_rows.specs.Rows.{AreFit, version_at}
 use Rattle.row_page.specs.Changes.{PageChange, version_in}
 use Rattle.row_page.specs.Rows.{Row}
-use Rattle.rows_shown.specs.Shows.{shown_at}
+use Rattle.reconcile.specs.Shows.{shown_at}
 use Rattle.stamp.specs.declared.Name.{Name}
 use Rattle.stamp.specs.declared.Version.{Version}
 use Rattle.snapshot.specs.Past.{is_below}

@@ -83,6 +83,7 @@ stands_back seen later images left hub g g' old on books may within end synced u
   idle = held ∙ on.idle;
   long = still_long old later may.stands.seen_has;
   within = omega (arith, within, end);
+  history = ap (λ (v : Vec Addr Global). v.items) same.history ∙ on.history;
   roots = from (λ p t l. AreRoots hub.tables.tables l hub.dir.leaves (known_in p) t.items old) on.roots;
   written = from (λ p t l. AreWritten hub.tables.tables l hub.dir (known_in p) t.items) on.written;
   since = from (λ p t l. AreSince old l hub.dir (known_in p)) on.since;
@@ -181,7 +182,7 @@ module _ {D : Type 0} (g : Ghosts D) (before start : D) (looked : Looked g befor
       moved_back_all table e' g' back =
           let now : g'.lives ≡ stand.lives = back.lives (subst (λ (l : List Lone). AreNewAt l es) (sym lives) new_at) ∙ lives in
           let kept : g'.parts ≡ stand.parts = back.parts ∙ parts in
-          let alike : IsSameBut stand g' = record { slot = back.same.slot ∙ same.slot; number = back.same.number ∙ same.number; trees = back.same.trees ∙ same.trees; floor = back.same.floor ∙ same.floor; kept = back.same.kept ∙ same.kept } in
+          let alike : IsSameBut stand g' = record { slot = back.same.slot ∙ same.slot; number = back.same.number ∙ same.number; trees = back.same.trees ∙ same.trees; floor = back.same.floor ∙ same.floor; history = back.same.history ∙ same.history; kept = back.same.kept ∙ same.kept } in
           let freed : LetGo books g'.place.blocks (addrs_to es) = subst (λ (b : Books). LetGo b g'.place.blocks (addrs_to es)) blocks back.blocks in
           record {
             left = all_left after wrote.left;
@@ -284,7 +285,7 @@ module _ {D : Type 0} (g : Ghosts D) (before start : D) (looked : Looked g befor
         let_go = subst (λ (b : Books). LetGo b g'.place.blocks (addrs_if (own_of stand.lives (Some l)))) blocks (subst (λ (a : Option Addr). LetGo mid.place.blocks g'.place.blocks (addrs_if a)) own_is moved.blocks)
 
         alike : IsSameBut stand g'
-        alike = record { slot = moved.same.slot ∙ same.slot; number = moved.same.number ∙ same.number; trees = moved.same.trees ∙ same.trees; floor = moved.same.floor ∙ same.floor; kept = moved.same.kept ∙ same.kept }
+        alike = record { slot = moved.same.slot ∙ same.slot; number = moved.same.number ∙ same.number; trees = moved.same.trees ∙ same.trees; floor = moved.same.floor ∙ same.floor; history = moved.same.history ∙ same.history; kept = moved.same.kept ∙ same.kept }
 
         -- one of the leaves in its place
         first : (x : Leaf) × Member x (leaves_with l.table moved.way.ids es)

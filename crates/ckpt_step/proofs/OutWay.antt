@@ -21,7 +21,6 @@ use Rattle.kv_model.specs.History.{Table}
 use Rattle.leaf_write.specs.Adds.{AreAdded, with_all_fresh}
 use Rattle.row_page.specs.Rows.{Row}
 use Rattle.stamp.specs.declared.Name.{Name}
-use Rattle.recover_open.specs.Bare.{IsBare}
 use Rattle.stored.specs.Stored.{Stored}
 use Rattle.stored.specs.TableTree.{Entry, root_entry}
 use Rattle.stored.specs.Tree.{join}
@@ -50,7 +49,7 @@ use Rattle.ckpt_step.proofs.LeavesNow.{device_kept}
 use Rattle.ckpt_step.proofs.Links.{some_rows}
 use Rattle.ckpt_step.proofs.LonesMore.{gone_from, gone_none, of_none}
 use Rattle.ckpt_step.proofs.Lones.{lone_old, none_found_at}
-use Rattle.ckpt_step.proofs.Members.{all_of, map_member, none_some, some_same}
+use Rattle.ckpt_step.proofs.Members.{all_of, map_member}
 use Rattle.ckpt_step.proofs.OldBlocks.{in_use_less}
 use Rattle.ckpt_step.proofs.OldParts.{part_at, unwritten_part}
 use Rattle.ckpt_step.proofs.OldTrees.{are_live_leaves, leaves_apart, leaves_there, live_of_old}
@@ -228,13 +227,6 @@ module _ (seen later : List ℕ) (images left : List ℕ → Type 0) (e : Engine
 
   -- ---- the ground then
 
-  bare_of : (s : Stored) → old ≡ Some s → IsBare s.kept
-  bare_of s is = bare_by old on.roots s is
-    where
-      bare_by : (before : Option Stored) → AreRoots known g.lives d.leaves had g.trees.items before → (s : Stored) → before ≡ Some s → IsBare s.kept
-      bare_by None roots s is = absurd (none_some is)
-      bare_by (Some x) roots s is = subst (λ (y : Stored). IsBare y.kept) (some_same is) roots.bare
-
   -- what was written since, less the leaf's own block
   pub record AreLess (fewer : List Lone) : Type 0 where
     pub cells : (u : ℕ) → cell_at g'.place.blocks.cells u ≡ start_cell old fewer u
@@ -296,7 +288,7 @@ module _ (seen later : List ℕ) (images left : List ℕ → Type 0) (e : Engine
       used = record {
         seen_has = may.stands.seen_has;
         images_have = λ is. may.stands.images_have (sym blocks.synced ∙ is);
-        in_use = in_use_less later old books.cells g'.place.blocks.cells l.entry.link.addr may.stands.seen_has bare_of (λ u at. none_found_at old next lone_now u mine mine_in at) one_goes may.stands.in_use;
+        in_use = in_use_less later old books.cells g'.place.blocks.cells l.entry.link.addr may.stands.seen_has (λ u at. none_found_at old next lone_now u mine mine_in at) one_goes may.stands.in_use;
       };
       roots = roots_fewer old next lone_now mine mine_in n.leaves gone_id known has g.trees.items old roots_now;
       written = written_fewer old next lone_now mine mine_in n gone_id has known g.trees.items written_now;
@@ -324,6 +316,7 @@ module _ (seen later : List ℕ) (images left : List ℕ → Type 0) (e : Engine
     idle = blocks.held ∙ (held ∙ on.idle);
     long = still_long old later may.stands.seen_has;
     within = omega (arith, within, blocks.end);
+    history = ap (λ (v : Vec Addr Global). v.items) same.history ∙ on.history;
     roots = subst (λ (places : List TreePlace). AreRoots known g'.lives n.leaves has places old) (sym (ap (λ (v : Vec TreePlace Global). v.items) same.trees)) less.roots;
     written = subst (λ (places : List TreePlace). AreWritten known g'.lives n has places) (sym (ap (λ (v : Vec TreePlace Global). v.items) same.trees)) less.written;
     since = less.since;

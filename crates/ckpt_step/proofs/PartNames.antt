@@ -13,7 +13,7 @@ use Rattle.kv_model.specs.Machine.{Machine}
 use Rattle.leaf_rows.specs.Rows.{version_at}
 use Rattle.row_page.specs.Changes.{PageChange, version_in}
 use Rattle.row_page.specs.Rows.{Row}
-use Rattle.rows_shown.specs.Shows.{shown_at}
+use Rattle.reconcile.specs.Shows.{shown_at}
 use Rattle.snapshot.specs.Past.{is_below}
 use Rattle.stamp.specs.declared.Name.{Name}
 use Rattle.stamp.specs.declared.Version.{Version}

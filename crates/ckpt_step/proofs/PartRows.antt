@@ -12,12 +12,12 @@ use Rattle.row_page.specs.Changes.{PageChange, version_in}
 use Rattle.row_page.specs.Rows.{Row, RowFits, Ascends, is_below, key_most}
 use Rattle.row_page.proofs.Ascending.{below_trans, keys_part}
 use Rattle.leaf_rows.specs.Rows.{AreFit, version_at}
-use Rattle.rows_shown.specs.Shows.{shown_at}
-use Rattle.rows_shown.proofs.Keyed.{same_key}
+use Rattle.reconcile.specs.Shows.{shown_at}
+use Rattle.reconcile.proofs.Keyed.{same_key}
 use Rattle.stored.specs.Tree.{join}
 use Rattle.tree_dir.specs.declared.leaf.Leaf.{Leaf}
 use Rattle.tree_dir.specs.Leaves.{TablesBegin, leaf_under, leaves_of}
-use Rattle.ckpt_step.specs.Checkpoints.{IsRowsOf}
+use Rattle.ckpt_content.specs.Checkpoints.{IsRowsOf}
 use Rattle.ckpt_step.specs.Parts.{ArePartedBy}
 use Rattle.ckpt_step.specs.Sizes.{AreNewestOf}
 use Rattle.ckpt_step.proofs.LowKeys.{row_lies, rows_both}

@@ -5,7 +5,7 @@ use Rattle.std.proofs.Common.{inl, inr, subst, arith}
 use Rattle.std.proofs.lemmas.Bool.{cases_Bool}
 use Rattle.row_page.specs.Greatest.{durables_of, most_in}
 use Rattle.row_page.specs.Rows.{Row}
-use Rattle.rows_shown.specs.Shows.{shown_at}
+use Rattle.reconcile.specs.Shows.{shown_at}
 use Rattle.stored.specs.TableTree.{Entry}
 use Rattle.stored.specs.Tree.{join}
 use Rattle.tree_write.specs.Drafts.{HasLeaves}

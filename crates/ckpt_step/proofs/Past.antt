@@ -12,8 +12,8 @@ use Rattle.block_mgr.proofs.HasLemmas.{used_some}
 use Rattle.block_mgr.proofs.HolderLemmas.{used_live}
 use Rattle.kv_model.specs.Holds.{Member}
 use Rattle.stored.specs.Blocks.{Block}
-use Rattle.stored.specs.Stored.{Stored, history_blocks, tables_blocks}
-use Rattle.checkpoint_core.specs.Stands.{AreInUse, Stands, blocks_of}
+use Rattle.stored.specs.Stored.{Stored}
+use Rattle.checkpoint_core.specs.Stands.{AreInUse, Stands, blocks_of, body_blocks}
 use Rattle.checkpoint_core.specs.Room.{InBlocks, end_of}
 use Rattle.ckpt_step.specs.Grounds.{AreLone, found_in, start_cell}
 use Rattle.ckpt_step.specs.Lives.{block_of, lone_blocks}
@@ -64,7 +64,7 @@ covered_old None c u v b is low high from to = absurd (omega (arith, ap (λ (x :
 covered_old (Some s) c u v b is low high from to = elim (found_of u s) [
   | inl one ↦
       let units : c.units ≡ one.block.place.size / 4096 = ap (λ (x : Cell). x.units) (is ∙ (found_is u s ∙ one.cell)) in
-      inr (in_front (tables_blocks s.kept.tables s.trees) (history_blocks s.kept s.history) b (inside (tables_blocks s.kept.tables s.trees) one.block b one.there (omega (arith, one.at, from, low)) (omega (arith, one.at, to, high, units))))
+      inr (inside (body_blocks s) one.block b one.there (omega (arith, one.at, from, low)) (omega (arith, one.at, to, high, units)))
   | inr none ↦ elim (cases_eq s.slot.offset (8192 + 4096 * u)) [
     | inl at ↦
         let units : c.units ≡ s.slot.size / 4096 = ap (λ (x : Cell). x.units) (is ∙ (found_is u s ∙ (none.cell ∙ start-record u s at))) in

@@ -22,15 +22,18 @@ use Rattle.kv_model.specs.History.{Table}
 use Rattle.engine_world.specs.Worlds.{World}
 use Rattle.tree_dir.specs.declared.leaf.Leaf.{Leaf}
 use Rattle.catalog.specs.Known.{NumbersAscend}
-use Rattle.stored.specs.Records.{Record, record_image}
+use Rattle.stored.specs.Blocks.{Apart, Block}
+use Rattle.stored.specs.Records.{Record, Root, record_image}
 use Rattle.stored.specs.Stored.{Stored}
 use Rattle.device_leaf.proofs.Opens.{record_bytes}
-use Rattle.checkpoint_core.specs.Stands.{HasStill, IsReady, Stands, chosen_of}
+use Rattle.checkpoint_core.specs.Stands.{AreInUse, HasStill, IsReady, Stands, chosen_of}
+use Rattle.hist_open.specs.Trees.{HasHistory}
+use Rattle.tree_write.specs.Captures.{places_of}
 use Rattle.checkpoint_core.proofs.Holding.{still_long}
 use Rattle.checkpoint_core.specs.Finishes.{IsOld, IsEither, Finishes, Fails, IsLastNow, KeepsAfter, ReadsAfter, AreBack, units_of}
-use Rattle.ckpt_step.specs.Checkpoints.{IsCheckpointOf, IsRecordOf}
+use Rattle.ckpt_content.specs.Checkpoints.{IsCheckpointOf, IsRecordOf}
 use Rattle.ckpt_step.specs.Grounds.{number_of}
-use Rattle.ckpt_step.specs.Halves.{AllWritten, SomeWritten, IsFresh, Runs, done_at, half_cell, record_cell}
+use Rattle.ckpt_step.specs.Halves.{AllTaken, SomeTaken, IsFresh, Runs, done_at, half_cell, made_blocks, older_blocks, record_cell}
 use Rattle.ckpt_step.specs.Runs.{AllPut, IsImageOf, SomePut, made_of}
 use Rattle.ckpt_step.specs.Parts.{with_parts}
 use Rattle.ckpt_step.specs.Rooms.{Written}
@@ -38,7 +41,10 @@ use Rattle.ckpt_step.specs.declared.lives.Lone.{Lone}
 use Rattle.ckpt_step.specs.declared.parts.LeafPart.{LeafPart}
 use Rattle.ckpt_step.proofs.Following.{follows_new}
 use Rattle.ckpt_step.proofs.LeadingLeaves.{leaves_lead}
+use Rattle.ckpt_step.specs.Trees.{trees_blocks}
 use Rattle.ckpt_step.proofs.Made.{made_is, made_ready}
+use Rattle.ckpt_step.proofs.Pairs.{apart_front}
+use Rattle.ckpt_step.proofs.PlacedTrees.{all_front}
 
 pub if_ok_map : {T E : Type 0} {P Q : T → Type 0} (r : Result T E) → IfOk r P → ((x : T) → P x → Q x) → IfOk r Q
 if_ok_map (Ok x) is more = more x is
@@ -99,10 +105,10 @@ whole_there before after a (mid, added, is) = omega (arith, added.size)
 
 -- ---- the steps
 
-module _ {D : Type 0} (g : Ghosts D) (old : Option Stored) (lives : List Lone) (w : World) (known : List Table) (leaves : List Leaf) (had : Written) (books : Books) (places : List TreePlace) (more : List LeafPart) (taken : List Addr) (before : D) where
-  -- the trees were not all written
-  pub trees_failed : (books' : Books) (after : D) (e : StoreError) → SomeWritten g old lives w known leaves had books books' places more taken before after e → SomePut g old lives w known leaves had books books' places more taken before after e
-  trees_failed books' after e some = record {
+module _ {D : Type 0} (g : Ghosts D) (old : Option Stored) (lives : List Lone) (w : World) (known : List Table) (leaves : List Leaf) (had : Written) (books : Books) (places : List TreePlace) (root : Root) (stand : List Addr) (more : List LeafPart) (taken : List Addr) (before : D) where
+  -- not all was captured
+  pub body_failed : (books' : Books) (after : D) (e : StoreError) → SomeTaken g old lives w known leaves had books books' places more taken before after e → SomePut g old lives w known leaves had books books' places stand more taken before after e
+  body_failed books' after e some = record {
     left = inl some.left;
     kept = λ safe. some.left;
     keeps = some.keeps;
@@ -110,23 +116,26 @@ module _ {D : Type 0} (g : Ghosts D) (old : Option Stored) (lives : List Lone) (
     lacks = λ is. inl (some.lacks is);
   }
 
-  module _ (mid : D) (books' : Books) (all : AllWritten g old lives w known leaves had books books' places more taken before mid) where
+  module _ (mid : D) (books' : Books) (all : AllTaken g old lives w known leaves had books books' places more taken before mid root stand) where
     -- there was no memory for the record
-    pub no_image : SomePut g old lives w known leaves had books books' places more taken before mid NoMemory
+    pub no_image : SomePut g old lives w known leaves had books books' places stand more taken before mid NoMemory
     no_image = record {
       left = inl all.left;
       kept = λ safe. all.left;
       keeps = λ safe. all.keeps;
-      runs = λ safe. all.half.runs;
+      runs = λ safe. all.body.runs;
       lacks = λ is. absurd (cc);
     }
 
-    module _ (next : ℕ) (ascend : NumbersAscend 1 known next) (count : length places ≡ length known) (image : List ℕ) (number : ℕ) (is_number : number ≡ number_of old) (img : IsImageOf w.machine number known places image) (counts : (c : List ℕ) → g.may_leave mid c → g.left_since mid (g.moment before) c) where
+    module _ (next : ℕ) (ascend : NumbersAscend 1 known next) (count : length places ≡ length known) (image : List ℕ) (number : ℕ) (is_number : number ≡ number_of old) (img : IsImageOf w.machine number known places root image) (counts : (c : List ℕ) → g.may_leave mid c → g.left_since mid (g.moment before) c) where
       abbrev pub made : Addr → Stored
-      made a = made_of img.r known all.trees a
+      made a = made_of img.r known all.trees all.history a
+
+      rooted : (P : Root → Type 0) → P root → P img.r.history
+      rooted P is = subst P (sym img.history) is
 
       pub ready : (a : Addr) → IsReady (g.seen mid) books' image (made a)
-      ready a = made_ready known next ascend places all.trees count (g.seen mid) all.half.there img.r a img.is.bare img.tables image books' img.admitted img.spelled all.half.in_use all.half.apart
+      ready a = made_ready known next ascend places all.trees count (g.seen mid) all.body.there img.r all.history a img.tables image books' img.admitted img.spelled (rooted (λ (x : Root). HasHistory (g.seen mid) x all.history) all.body.has) (rooted (λ (x : Root). AreInUse books'.cells (made_blocks places all.trees x all.history)) all.body.in_use) (rooted (λ (x : Root). Apart (made_blocks places all.trees x all.history)) all.body.apart)
 
       since : (c : List ℕ) → g.may_leave mid c → IsOld (g.may_leave before) old c
       since c there = all.left.each c (counts c there)
@@ -146,7 +155,7 @@ module _ {D : Type 0} (g : Ghosts D) (old : Option Stored) (lives : List Lone) (
       turns after a left = joined g before mid after _ _ (widened g before mid _ _ all.left (λ c is. inl is)) left (either_since a)
 
       is_made : (a : Addr) → IsCheckpointOf w.machine (number_of old) (made a)
-      is_made a = subst (λ (n : ℕ). IsCheckpointOf w.machine n (made a)) is_number (made_is known next ascend places all.trees count (g.seen mid) all.half.there img.r a img.is.bare img.tables w.machine number img.is all.rows)
+      is_made a = subst (λ (n : ℕ). IsCheckpointOf w.machine n (made a)) is_number (made_is known next ascend places all.trees count (g.seen mid) all.body.there img.r all.history a img.tables w.machine number img.is all.rows all.older)
 
       sized : (P : ℕ → ℕ → Type 0) → g.capacity mid ≡ g.capacity before → P (units_of (length image)) (g.capacity mid) → P (block_size (length (record_image img.r))) (g.capacity before)
       sized P room is = subst (λ (k : ℕ). P (block_size (length (record_image img.r))) k) room (subst (λ (l : List ℕ). P (block_size (length l)) (g.capacity mid)) img.spelled is)
@@ -155,10 +164,11 @@ module _ {D : Type 0} (g : Ghosts D) (old : Option Stored) (lives : List Lone) (
       record_size = (img.r, subst (λ (n : ℕ). IsRecordOf w.machine n img.r) is_number img.is, refl)
 
       pub all_put : (last : Books) (after : D) (a : Addr) → g.capacity mid ≡ g.capacity before → Finishes g books'.space (length image) (g.capacity mid) old (made a) mid after (Ok a) → ReadsAfter g last old (made a) after (Ok a) → IsLastNow books' last a → AreUnits last.cells last.space → last.is_held ≡ false
-          → AllPut g old lives w known leaves had books last places more taken before after a
+          → AllPut g old lives w known leaves had books last places stand more taken before after a
       all_put last after a room (left, each, (space, at, got)) (on, within) now units idle = record {
         r = img.r;
         trees = all.trees;
+        history = all.history;
         is = is_made a;
         left = turns after a left;
         each = each;
@@ -169,31 +179,32 @@ module _ {D : Type 0} (g : Ghosts D) (old : Option Stored) (lives : List Lone) (
           on = on;
           tables = img.tables;
           bytes = g.seen mid;
-          there = all.half.there;
+          there = all.body.there;
+          stand_is = rooted (λ (x : Root). stand ≡ places_of (older_blocks x all.history)) all.body.stand_is;
           half = books'.cells;
-          half_are = all.half.runs.cells;
-          half_use = all.half.in_use;
-          listed = all.half.listed;
-          own = all.half.runs.own;
-          fresh = fresh_there books' last a old lives taken all.half.runs.cells now;
+          half_are = all.body.runs.cells;
+          half_use = rooted (λ (x : Root). AreInUse books'.cells (made_blocks places all.trees x all.history)) all.body.in_use;
+          listed = all.body.listed;
+          own = all.body.runs.own;
+          fresh = fresh_there books' last a old lives taken all.body.runs.cells now;
           sized = whole_there books' last a now;
-          cells = last_cells books' last a old lives taken (omega (arith, on.whole.addressed.0.size, record_bytes img.r)) all.half.runs.cells now;
+          cells = last_cells books' last a old lives taken (omega (arith, on.whole.addressed.0.size, record_bytes img.r)) all.body.runs.cells now;
           units = units;
           idle = idle;
           within = within;
         };
-        follows = follows_new known next ascend places all.trees count (g.seen mid) all.half.there img.r a img.is.bare img.tables leaves (with_parts had more) w all.rows all.by_leaves.parted all.by_leaves.shelved (leaves_lead (g.seen mid) books' all.half.runs.units places all.trees all.half.there all.half.apart all.half.in_use);
+        follows = follows_new known next ascend places all.trees count (g.seen mid) all.body.there img.r all.history a img.tables leaves (with_parts had more) w all.rows all.by_leaves.parted all.by_leaves.shelved (leaves_lead (g.seen mid) books' all.body.runs.units places all.trees all.body.there (apart_front (trees_blocks places all.trees) (older_blocks root all.history) all.body.apart) (all_front (λ (b : Block). Has books'.cells b.place.offset b.place.size) (trees_blocks places all.trees) (older_blocks root all.history) all.body.in_use));
       }
 
       runs_back : (last : Books) (after : D) (a : Addr) (e : StoreError) → ReadsAfter g last old (made a) after (Err e) → AreBack books' last → ((ReadsAfter g last old (made a) after (Err e)) → Stands (g.seen after) (g.may_leave after) last old × (end_of last.space ≤ length (g.seen after))) → 8192 ≤ length (g.seen after) → Runs (g.seen after) (g.may_leave after) last old lives taken
-      runs_back last after a e reads back is long = let r = is reads in record { stands = r.0; cells = λ u. back.cells u ∙ all.half.runs.cells u; units = back.units all.half.runs.units; long = long; within = r.1; own = all.half.runs.own }
+      runs_back last after a e reads back is long = let r = is reads in record { stands = r.0; cells = λ u. back.cells u ∙ all.body.runs.cells u; units = back.units all.body.runs.units; long = long; within = r.1; own = all.body.runs.own }
 
       -- what the books had at first is as it was
       keeps_then : (after : D) → Keeps (Has books'.cells) (g.seen mid) (g.seen after) → Keeps (Has books.cells) (g.seen before) (g.seen after)
       keeps_then after still = keeps_trans (Has books.cells) (g.seen before) (g.seen mid) (g.seen after) all.keeps (keeps_fewer (Has books'.cells) (Has books.cells) (g.seen mid) (g.seen after) all.used still)
 
       -- the record was not installed
-      pub not_put : (last : Books) (after : D) (a : Addr) (e : StoreError) → g.capacity mid ≡ g.capacity before → Fails g books'.space (length image) (g.capacity mid) old (made a) mid after e → ReadsAfter g last old (made a) after (Err e) → KeepsAfter g books' mid after (Err e) → AreBack books' last → SomePut g old lives w known leaves had books last places more taken before after e
+      pub not_put : (last : Books) (after : D) (a : Addr) (e : StoreError) → g.capacity mid ≡ g.capacity before → Fails g books'.space (length image) (g.capacity mid) old (made a) mid after e → ReadsAfter g last old (made a) after (Err e) → KeepsAfter g books' mid after (Err e) → AreBack books' last → SomePut g old lives w known leaves had books last places stand more taken before after e
       not_put last after a NoMemory room left reads still back = record {
         left = inl (keeps after left);
         kept = λ safe. keeps after left;

@@ -11,8 +11,7 @@ use Rattle.kv_model.specs.Holds.{Member}
 use Rattle.kv_model.specs.History.{Table}
 use Rattle.snapshot.specs.Sight.{Ascends, IsSight, Sight}
 use Rattle.snapshot.proofs.Listed.{ascends-bound}
-use Rattle.stored.specs.Links.{nowhere}
-use Rattle.stored.specs.Records.{IdsAscend, IsNameByte, IsTableName, NumbersOnce, Root, RootFits, SnapshotFits, TableFits, TableRoot, TablesClimb}
+use Rattle.stored.specs.Records.{IdsAscend, IsNameByte, IsTableName, NumbersOnce, Root, SnapshotFits, TableFits, TableRoot, TablesClimb}
 use Rattle.stored.specs.Stored.{tables_of}
 use Rattle.catalog.specs.Known.{AreTables, Known, NamesAscend, by_name, is_below}
 use Rattle.catalog.specs.Order.{Ascend}
@@ -128,12 +127,6 @@ tables_fit known roots are typed = record {
 pub rooted_tables : (roots : Table → Root) (tables : List Table) → tables_of (rooted roots tables) ≡ tables
 rooted_tables roots [] = refl
 rooted_tables roots (t ∷ later) = ap (λ (l : List Table). t ∷ l) (rooted_tables roots later)
-
-pub nowhere_fits : RootFits (record { level = 0; link = nowhere })
-nowhere_fits = record {
-  level = omega arith;
-  link = record { offset = omega arith; size = omega arith; sum = omega arith; run = omega arith; id = omega arith; durable = omega arith };
-}
 
 -- ---- the snapshot
 

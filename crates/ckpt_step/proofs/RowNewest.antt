@@ -12,7 +12,7 @@ use Rattle.kv_model.specs.Ordered.{Older}
 use Rattle.kv_model.specs.Pending.{InFrame, TopStands, settled, Update as ModelUpdate}
 use Rattle.kv_model.specs.Valid.{Valid}
 use Rattle.kv_model.proofs.Ordering.{line-descends}
-use Rattle.leaf_capture.proofs.Newest.{newest_held}
+use Rattle.reconcile.proofs.Newest.{newest_held}
 use Rattle.update_chain.specs.EventLaws.{StandsFor}
 
 -- a cell

@@ -19,9 +19,9 @@ use Rattle.catalog.proofs.InOrder.{order_keeps}
 use Rattle.stored.specs.Blocks.{Block}
 use Rattle.stored.specs.Records.{Record}
 use Rattle.stored.specs.Stored.{Stored, IsOn, tables_blocks}
+use Rattle.stored.specs.HistoryTree.{HistoryTree}
 use Rattle.stored.specs.TableTree.{TableTree}
 use Rattle.checkpoint_core.specs.Stands.{AreInUse, body_blocks}
-use Rattle.recover_open.specs.Bare.{IsBare}
 use Rattle.tree_open.specs.declared.place.TreePlace.{TreePlace}
 use Rattle.ckpt_step.specs.declared.ground.Ground.{Ground}
 use Rattle.call_steps.specs.declared.hub.Hub.{Hub}
@@ -32,22 +32,28 @@ use Rattle.ckpt_step.specs.Rooms.{Written, known_in}
 use Rattle.ckpt_step.specs.declared.lives.Lone.{Lone}
 use Rattle.ckpt_step.specs.declared.parts.LeafPart.{LeafPart}
 use Rattle.ckpt_step.proofs.NewParts.{new_written}
-use Rattle.ckpt_step.specs.Halves.{AreParted, body_cell, half_cell, record_cell, settled_at, with_last}
+use Rattle.ckpt_step.specs.Halves.{AreParted, body_cell, half_cell, made_blocks, older_blocks, record_cell, settled_at, with_last}
 use Rattle.ckpt_step.specs.Records.{trees_by_name}
 use Rattle.ckpt_step.specs.Runs.{IsDone, made_of}
-use Rattle.ckpt_step.specs.Trees.{trees_blocks}
+use Rattle.ckpt_step.specs.Trees.{addrs_of, trees_blocks}
 use Rattle.ckpt_step.proofs.Cells.{Begins, found_is, found_of, start-none, start-record, which}
 use Rattle.ckpt_step.proofs.Lones.{no_led, no_since}
 use Rattle.ckpt_step.proofs.PlacedTrees.{addr_block, block_addr}
-use Rattle.ckpt_step.proofs.Made.{all_blocks, body_are, made_roots, table_blocks, tables_are}
-use Rattle.ckpt_step.proofs.Members.{all_made, all_of, flat_member, member_flat}
+use Rattle.ckpt_step.proofs.Made.{all_blocks, made_roots, table_blocks, tables_are}
+use Rattle.ckpt_step.proofs.Members.{all_made, all_of, flat_member, in_back, in_either, in_front, map_member, member_flat, member_map}
 
 -- ---- once the checkpoint is settled
 
-module _ (seen : List ℕ) (books : Books) (old : Option Stored) (lives : List Lone) (known : List Table) (next : ℕ) (ascend : NumbersAscend 1 known next) (places : List TreePlace) (trees : List TableTree) (captured : List Addr) (count : length places ≡ length known) (r : Record) (a : Addr)
-    (done : IsDone seen books old lives known places trees captured r a) (bare : IsBare r) (cells : List Cell) (settled : (u : ℕ) → cell_at cells u ≡ settled_at captured a u) where
+module _ (seen : List ℕ) (books : Books) (old : Option Stored) (lives : List Lone) (known : List Table) (next : ℕ) (ascend : NumbersAscend 1 known next) (places : List TreePlace) (trees : List TableTree) (history : HistoryTree) (stand captured : List Addr) (count : length places ≡ length known) (r : Record) (a : Addr)
+    (done : IsDone seen books old lives known places trees history stand captured r a) (cells : List Cell) (settled : (u : ℕ) → cell_at cells u ≡ settled_at captured a u) where
   abbrev new : Stored
-  new = made_of r known trees a
+  new = made_of r known trees history a
+
+  abbrev older : List Block
+  older = older_blocks r.history history
+
+  abbrev made : List Block
+  made = made_blocks places trees r.history history
 
   abbrev own : Table → List Block
   own t = table_blocks known next ascend places trees count done.bytes done.there t
@@ -56,36 +62,48 @@ module _ (seen : List ℕ) (books : Books) (old : Option Stored) (lives : List L
   all = all_blocks known next ascend places trees count done.bytes done.there
 
   tables : tables_blocks r.tables (trees_by_name known trees) ≡ flat_map own (by_name known)
-  tables = tables_are known next ascend places trees count done.bytes done.there r a bare done.tables
+  tables = tables_are known next ascend places trees count done.bytes done.there r history a done.tables
 
   -- by name and by place there are the same blocks
-  to_name : (b : Block) → Member b (trees_blocks places trees) → Member b (tables_blocks r.tables (trees_by_name known trees))
-  to_name b there =
-      let t = member_flat own known b (subst (λ (l : List Block). Member b l) all there) in
-      subst (λ (l : List Block). Member b l) (sym tables) (flat_member own t.0 (by_name known) b ((order_keeps known t.0).1 t.1) t.2)
+  to_name : (b : Block) → Member b made → Member b (body_blocks new)
+  to_name b there = elim (in_either (trees_blocks places trees) older b there) [
+    | inr its ↦ in_back (tables_blocks r.tables (trees_by_name known trees)) older b its
+    | inl of_tree ↦
+        let t = member_flat own known b (subst (λ (l : List Block). Member b l) all of_tree) in
+        in_front (tables_blocks r.tables (trees_by_name known trees)) older b (subst (λ (l : List Block). Member b l) (sym tables) (flat_member own t.0 (by_name known) b ((order_keeps known t.0).1 t.1) t.2))
+  ]
 
-  from_name : (b : Block) → Member b (tables_blocks r.tables (trees_by_name known trees)) → Member b (trees_blocks places trees)
-  from_name b there =
-      let t = member_flat own (by_name known) b (subst (λ (l : List Block). Member b l) tables there) in
-      subst (λ (l : List Block). Member b l) (sym all) (flat_member own t.0 known b ((order_keeps known t.0).0 t.1) t.2)
+  from_name : (b : Block) → Member b (body_blocks new) → Member b made
+  from_name b there = elim (in_either (tables_blocks r.tables (trees_by_name known trees)) older b there) [
+    | inr its ↦ in_back (trees_blocks places trees) older b its
+    | inl of_tree ↦
+        let t = member_flat own (by_name known) b (subst (λ (l : List Block). Member b l) tables of_tree) in
+        in_front (trees_blocks places trees) older b (subst (λ (l : List Block). Member b l) (sym all) (flat_member own t.0 known b ((order_keeps known t.0).0 t.1) t.2))
+  ]
 
   -- a captured address is that of one of them
   record IsCaught (x : Addr) : Type 0 where
     block : Block
-    there : Member block (trees_blocks places trees)
+    there : Member block made
     place : x ≡ block.place
 
   caught : (x : Addr) → Member x captured → IsCaught x
-  caught x there = let b = addr_block done.bytes places trees x done.there ((done.listed x).0 there) in record { block = b.0; there = b.1; place = b.2 }
+  caught x there = elim (in_either (addrs_of places) stand x ((done.listed x).0 there)) [
+    | inl of_tree ↦ let b = addr_block done.bytes places trees x done.there of_tree in record { block = b.0; there = in_front (trees_blocks places trees) older b.0 b.1; place = b.2 }
+    | inr its ↦ let b = member_map {A = Block} (λ y. y.place) x older (subst (λ (l : List Addr). Member x l) done.stand_is its) in record { block = b.0; there = in_back (trees_blocks places trees) older b.0 b.1; place = b.2 }
+  ]
 
-  uncaught : (b : Block) → Member b (trees_blocks places trees) → Member b.place captured
-  uncaught b there = (done.listed b.place).1 (block_addr done.bytes places trees b done.there there)
+  uncaught : (b : Block) → Member b made → Member b.place captured
+  uncaught b there = (done.listed b.place).1 (elim (in_either (trees_blocks places trees) older b there) [
+    | inl of_tree ↦ in_front (addrs_of places) stand b.place (block_addr done.bytes places trees b done.there of_tree)
+    | inr its ↦ in_back (addrs_of places) stand b.place (subst (λ (l : List Addr). Member b.place l) (sym done.stand_is) (map_member {A = Block} (λ y. y.place) b older its))
+  ])
 
-  half_has : (b : Block) → Member b (trees_blocks places trees) → Has done.half b.place.offset b.place.size
-  half_has b there = all_of (λ (x : Block). Has done.half x.place.offset x.place.size) (trees_blocks places trees) b done.half_use there
+  half_has : (b : Block) → Member b made → Has done.half b.place.offset b.place.size
+  half_has b there = all_of (λ (x : Block). Has done.half x.place.offset x.place.size) made b done.half_use there
 
   -- two that begin at one unit have one size
-  sizes : (u : ℕ) (b c : Block) → Member b (trees_blocks places trees) → Member c (trees_blocks places trees) → Begins u b.place → Begins u c.place → b.place.size ≡ c.place.size
+  sizes : (u : ℕ) (b c : Block) → Member b made → Member c made → Begins u b.place → Begins u c.place → b.place.size ≡ c.place.size
   sizes u b c there also hit hits =
       let one = half_has b there in
       let two = half_has c also in
@@ -127,7 +145,7 @@ module _ (seen : List ℕ) (books : Books) (old : Option Stored) (lives : List L
         ]
   ]
 
-  block_has : (b : Block) → Member b (trees_blocks places trees) → Has cells b.place.offset b.place.size
+  block_has : (b : Block) → Member b made → Has cells b.place.offset b.place.size
   block_has b there =
       let one = half_has b there in
       let u : ℕ = one.0 in
@@ -149,14 +167,13 @@ module _ (seen : List ℕ) (books : Books) (old : Option Stored) (lives : List L
 
   body_use : AreInUse cells (body_blocks new)
   body_use =
-      subst (λ (l : List Block). AreInUse cells l) (sym (body_are known next ascend places trees count done.bytes done.there r a bare done.tables ∙ sym tables))
-      (all_made (λ (b : Block). Has cells b.place.offset b.place.size) (tables_blocks r.tables (trees_by_name known trees)) (λ b there. block_has b (from_name b there)))
+      all_made (λ (b : Block). Has cells b.place.offset b.place.size) (body_blocks new) (λ b there. block_has b (from_name b there))
 
   -- the ground is that of the new checkpoint
   pub new_ground : (images : List ℕ → Type 0) (hub : Hub) (had : Written) (more : List LeafPart) (g : Ground) → hub.tables.tables ≡ known → IsDirectory hub.dir → AreParted known hub.dir.leaves (with_parts had more) places trees → AreOfLeaves hub.dir.leaves more → ((id : ℕ) → hub.dir.next ≤ id → had id ≡ None)
       → Each images (λ c. IsOn c new) → g.place.blocks.cells ≡ cells → AreUnits g.place.blocks.cells g.place.blocks.space → g.place.blocks.is_held ≡ false → end_of g.place.blocks.space ≡ end_of books.space → g.number ≡ r.sequence
-      → g.place.slot ≡ Some (slot_at r.sequence a) → g.trees.items ≡ places → ((leaf : ℕ) → known_in g.parts leaf ≡ with_parts had more leaf) → g.lives ≡ [] → StandsOn seen images hub g (Some new)
-  new_ground images hub had more g tables_are is parted of later each same units idle end number slot_is trees_are parts_are none = record {
+      → g.place.slot ≡ Some (slot_at r.sequence a) → g.trees.items ≡ places → g.history.items ≡ stand → ((leaf : ℕ) → known_in g.parts leaf ≡ with_parts had more leaf) → g.lives ≡ [] → StandsOn seen images hub g (Some new)
+  new_ground images hub had more g tables_are is parted of later each same units idle end number slot_is trees_are history_is parts_are none = record {
     stands = record {
       seen_has = done.on;
       images_have = λ _. each;
@@ -169,7 +186,8 @@ module _ (seen : List ℕ) (books : Books) (old : Option Stored) (lives : List L
     idle = idle;
     long = done.on.long;
     within = omega (arith, end, done.within);
-    roots = from (λ ts ps x. HasRoots ts g.lives hub.dir.leaves x ps new) (subst (λ (y : List Lone). HasRoots known y hub.dir.leaves (with_parts had more) places new) (sym none) (made_roots known next ascend places trees count done.bytes done.there r a bare done.tables hub.dir.leaves (with_parts had more) parted));
+    roots = from (λ ts ps x. HasRoots ts g.lives hub.dir.leaves x ps new) (subst (λ (y : List Lone). HasRoots known y hub.dir.leaves (with_parts had more) places new) (sym none) (made_roots known next ascend places trees count done.bytes done.there r history a done.tables hub.dir.leaves (with_parts had more) parted));
+    history = history_is ∙ done.stand_is;
     written = from (λ ts ps x. AreWritten ts g.lives hub.dir x ps) (new_written hub.dir known places had more g.lives is count of later);
     since = subst (λ (y : List Lone). AreSince (Some new) y hub.dir (known_in g.parts)) (sym none) (no_since (Some new) hub.dir (known_in g.parts));
     led = subst (λ (y : List Lone). AreLedTo hub.tables.tables y hub.dir.leaves) (sym none) (no_led hub.tables.tables hub.dir.leaves);

@@ -26,8 +26,8 @@ use Rattle.ckpt_step.specs.Trees.{addrs_of}
 use Rattle.ckpt_step.proofs.OldTrees.{are_old_blocks}
 
 module _ (seen : List ℕ) (images : List ℕ → Type 0) (hub : Hub) (ascend : NumbersAscend 1 hub.tables.tables hub.tables.next) (g : Ground) (old : Option Stored) (on : StandsOn seen images hub g old) where
-  pub past_blocks : AreOldBlocks old g.lives (addrs_of g.trees.items ++ addrs_in g.lives)
-  past_blocks = are_old_blocks seen images g.place.blocks hub.tables.tables hub.tables.next ascend g.lives hub.dir.leaves (known_in g.parts) g.trees.items old on.stands on.roots on.since.lone on.cells on.units
+  pub past_blocks : AreOldBlocks old g.lives (addrs_of g.trees.items ++ (g.history.items ++ addrs_in g.lives))
+  past_blocks = subst (λ (l : List Addr). AreOldBlocks old g.lives (addrs_of g.trees.items ++ (l ++ addrs_in g.lives))) (sym on.history) (are_old_blocks seen images g.place.blocks hub.tables.tables hub.tables.next ascend g.lives hub.dir.leaves (known_in g.parts) g.trees.items old on.stands on.roots on.since.lone on.cells on.units)
 
   -- a checkpoint runs that has captured nothing yet
   pub half_start : (books : Books) → books.cells ≡ g.place.blocks.cells → books.space ≡ g.place.blocks.space → books.is_synced ≡ g.place.blocks.is_synced → books.is_held ≡ true → Half seen images books old g.lives [] [] []
@@ -49,8 +49,8 @@ module _ (seen : List ℕ) (images : List ℕ → Type 0) (hub : Hub) (ascend : 
 
   -- it was given up
   pub old_ground : (later : List ℕ) (left : List ℕ → Type 0) (captured : List Addr) (books : Books) (after : Ground) → Runs later left books old g.lives captured → ((u : ℕ) → cell_at after.place.blocks.cells u ≡ start_cell old g.lives u) → AreUnits after.place.blocks.cells after.place.blocks.space → end_of after.place.blocks.space ≡ end_of books.space
-      → after.place.blocks.is_synced ≡ books.is_synced → after.place.blocks.is_held ≡ false → after.place.slot ≡ g.place.slot → after.number ≡ g.number → after.trees.items ≡ g.trees.items → ((leaf : ℕ) → known_in after.parts leaf ≡ known_in g.parts leaf) → after.lives ≡ g.lives → StandsOn later left hub after old
-  old_ground later left captured books after runs cells units end synced idle slot number trees parts lives = record {
+      → after.place.blocks.is_synced ≡ books.is_synced → after.place.blocks.is_held ≡ false → after.place.slot ≡ g.place.slot → after.number ≡ g.number → after.trees.items ≡ g.trees.items → after.history.items ≡ g.history.items → ((leaf : ℕ) → known_in after.parts leaf ≡ known_in g.parts leaf) → after.lives ≡ g.lives → StandsOn later left hub after old
+  old_ground later left captured books after runs cells units end synced idle slot number trees history parts lives = record {
     stands = record {
       seen_has = runs.stands.seen_has;
       images_have = λ is. runs.stands.images_have (sym synced ∙ is);
@@ -63,6 +63,7 @@ module _ (seen : List ℕ) (images : List ℕ → Type 0) (hub : Hub) (ascend : 
     idle = idle;
     long = still_long old later runs.stands.seen_has;
     within = omega (arith, end, runs.within);
+    history = history ∙ on.history;
     roots = from (λ x l y. AreRoots hub.tables.tables y hub.dir.leaves x l old) on.roots;
     written = from (λ x l y. AreWritten hub.tables.tables y hub.dir x l) on.written;
     since = from (λ x l y. AreSince old y hub.dir x) on.since;

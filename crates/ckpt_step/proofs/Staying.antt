@@ -141,7 +141,6 @@ module _ (hub next : Hub) (goes : HubGoesOn hub next) (was : IsDirectory hub.dir
   roots_on : (lives : List Lone) (written : Written) (places : List TreePlace) (old : Option Stored) → AreRoots known lives hub.dir.leaves written places old → AreRoots next.tables.tables lives next.dir.leaves written places old
   roots_on lives written places None none = none
   roots_on lives written places (Some s) roots = record {
-    bare = roots.bare;
     few = omega (arith, roots.few, few);
     count = roots.count;
     trees = λ i t place at stands.
@@ -238,6 +237,7 @@ module _ (hub next : Hub) (goes : HubGoesOn hub next) (was : IsDirectory hub.dir
     long = on.long;
     within = on.within;
     roots = roots_on g.lives (known_in g.parts) g.trees.items old on.roots;
+    history = on.history;
     written = written_on g.lives (known_in g.parts) g.trees.items on.written;
     since = since_on g.lives old (known_in g.parts) on.since;
     led = led_on g.lives on.led;

@@ -20,7 +20,7 @@ use Rattle.tree_open.specs.declared.place.TreePlace.{TreePlace}
 use Rattle.tree_write.specs.Writes.{LeadApart}
 use Rattle.engine_world.specs.Stands.{Engine, Stands}
 use Rattle.engine_world.specs.Worlds.{World}
-use Rattle.ckpt_step.specs.Checkpoints.{IsRowsOf}
+use Rattle.ckpt_content.specs.Checkpoints.{IsRowsOf}
 use Rattle.ckpt_step.specs.Floors.{AreNewestIn, FollowsFrom, IsStill}
 use Rattle.ckpt_step.specs.Goings.{HasPartsAt}
 use Rattle.ckpt_step.specs.Lives.{NoneLive, is_live}

@@ -1,13 +1,11 @@
 -- A leaf of the directory as a draft has it, kept or written.
-use Rattle.std.specs.Prelude.{◌≡◌, ℕ, List, [], ◌∷◌, length, Option, Some, None, refl}
+use Rattle.std.specs.Prelude.{◌≡◌, ℕ, List, [], ◌∷◌, length, Some, refl}
 use Rattle.std.specs.List.{Contains}
 use Rattle.std.proofs.Common.{inl, inr, sym, ◌∙◌, ap, subst}
 use Rattle.device_layout.specs.declared.link.Link.{Link}
-use Rattle.item.specs.declared.Change.{Change}
 use Rattle.stamp.specs.declared.Name.{Name}
-use Rattle.stamp.specs.declared.Version.{Version}
 use Rattle.row_page.specs.Rows.{Row}
-use Rattle.rows_shown.specs.Shows.{shown_at}
+use Rattle.reconcile.specs.Shows.{shown_at}
 use Rattle.snapshot.specs.Matters.{NoneResolves, SeesCommitted}
 use Rattle.snapshot.specs.Sight.{Sight}
 use Rattle.update_chain.specs.EventLaws.{StandsFor}

@@ -19,7 +19,7 @@ use Rattle.leaf_rows.specs.Rows.{AreFit}
 use Rattle.reconcile.specs.declared.image.Image.{Image}
 use Rattle.reconcile.specs.Images.{AreImages}
 use Rattle.row_page.specs.Rows.{Row, is_below, key_most}
-use Rattle.rows_shown.specs.Shows.{shown_at}
+use Rattle.reconcile.specs.Shows.{shown_at}
 use Rattle.snapshot.specs.Matters.{NoneResolves, SeesCommitted}
 use Rattle.snapshot.specs.Sight.{Sight}
 use Rattle.stamp.specs.declared.Version.{Version}
@@ -96,6 +96,7 @@ pub record IsSameBut (g g' : Ground) : Type 0 where
   pub number : g'.number ≡ g.number
   pub trees : g'.trees ≡ g.trees
   pub floor : g'.floor ≡ g.floor
+  pub history : g'.history ≡ g.history
   pub kept : g'.kept ≡ g.kept
 
 -- the live tree let go of the blocks at these addresses

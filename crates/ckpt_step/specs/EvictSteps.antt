@@ -22,6 +22,7 @@ use Rattle.engine_world.specs.GoingOut.{with_again}
 use Rattle.engine_world.specs.Stands.{Engine, Stands}
 use Rattle.engine_world.specs.Worlds.{World, with_records}
 use Rattle.engine.specs.Evictions.{HasBeenEvicted, MayBeEvicted}
+use Rattle.evict_step.specs.Kept.{KeepsAt}
 use Rattle.ckpt_step.specs.declared.ground.Ground.{Ground}
 use Rattle.ckpt_step.specs.CutOuts.{IsSameBut, LetGo, NotPut}
 use Rattle.ckpt_step.specs.Evicts.{LeftFrame}
@@ -83,7 +84,7 @@ pub record IsRowless (g : Ground) (hub : Hub) (l : Leaf) : Type 0 where
   pub part : part_of (known_in g.parts) l ≡ []
   pub placed : (i : ℕ) (t : Table) → slice_get hub.tables.tables i ≡ Some t → l.table ≡ t.number → slice_get g.trees.items i ≢ None
 
--- it did, leads where it led, and nothing is kept of what checkpoints wrote of it
+-- it did, leads where it led, and nothing is kept of it, nor of what checkpoints wrote of it
 pub record HasLeftEmpty (e e' : Engine) (g g' : Ground) (id : ℕ) : Type 0 where
   pub link : Link
   pub out : HasBeenEvicted e e' id link
@@ -92,4 +93,5 @@ pub record HasLeftEmpty (e e' : Engine) (g g' : Ground) (id : ℕ) : Type 0 wher
   pub stands : StandsEvicted e e' id
   pub gone : known_in g'.parts id ≡ None
   pub others : (other : ℕ) → other ≢ id → known_in g'.parts other ≡ known_in g.parts other
-  pub same : g' ≡ record g { parts = g'.parts }
+  pub kept : KeepsAt g.kept g'.kept id []
+  pub same : g' ≡ record g { parts = g'.parts; kept = g'.kept }

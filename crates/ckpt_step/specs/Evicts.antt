@@ -92,6 +92,7 @@ module _ {D : Type 0} (g : Ghosts D) (old : Option Stored) (w : World) (stand st
     pub grown : IsGrown e id moved
     pub entries : List Entry
     pub parted : HasParted e e' id entries
+    pub ids : e.hub.dir.next ≤ e'.hub.dir.next
     pub left : LeavesOnly g before after (IsOld (g.may_leave before) old)
     pub shelf : ℕ → List Row
     pub to : IsPartedTo w e.hub.dir e'.hub.dir parted.way.leaf parted.may.may.frame (leaves_with parted.way.leaf.table parted.way.ids entries) shelf (with_moved e'.hub.dir.leaves parted.way.leaf.table moved w.records)
@@ -116,7 +117,7 @@ module _ {D : Type 0} (g : Ghosts D) (old : Option Stored) (w : World) (stand st
     pub on : StandsOn (g.seen after) (g.may_leave after) e'.hub stand' old
     pub follows : Follows old e'.hub stand' (with_records id (λ key. []) (with_rows id [] (with_again e out.may.framed.frame w)))
     pub since : AreLivesOn (g.seen after) e'.hub stand' (with_records id (λ key. []) (with_rows id [] (with_again e out.may.framed.frame w)))
-    pub kept : stand'.kept ≡ stand.kept
+    pub kept : KeepsAt stand.kept stand'.kept id []
     pub forgets : known_in stand'.parts id ≡ None
 
   -- it did, and what moved is kept of it

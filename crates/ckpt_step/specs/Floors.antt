@@ -8,7 +8,7 @@ use Rattle.kv_model.specs.AgreementLaws.{head_of}
 use Rattle.kv_model.specs.History.{Table, line}
 use Rattle.kv_model.specs.Machine.{Machine, name_of, transaction_of}
 use Rattle.row_page.specs.Rows.{Row}
-use Rattle.rows_shown.specs.Shows.{shown_at}
+use Rattle.reconcile.specs.Shows.{shown_at}
 use Rattle.stored.specs.Stored.{Stored}
 use Rattle.stored.specs.TableTree.{Entry, TableTree}
 use Rattle.stored.specs.Tree.{join}
@@ -19,7 +19,7 @@ use Rattle.engine_world.specs.Worlds.{Records, World}
 use Rattle.tree_open.specs.declared.place.TreePlace.{TreePlace}
 use Rattle.tree_write.specs.Drafts.{HasLeaves}
 use Rattle.recover_open.specs.Bare.{tree_rows}
-use Rattle.ckpt_step.specs.Checkpoints.{IsRowsOf}
+use Rattle.ckpt_content.specs.Checkpoints.{IsRowsOf}
 use Rattle.ckpt_step.specs.Trees.{HasTreeAt}
 use Rattle.ckpt_step.specs.Lives.{NoneLive, is_live}
 use Rattle.ckpt_step.specs.Parts.{AreBelowFloor, IsPart, IsParted, part_in, part_leaves, part_of}

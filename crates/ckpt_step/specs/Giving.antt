@@ -16,7 +16,7 @@ use Rattle.engine_world.specs.GivingWay.{IsShelved}
 use Rattle.engine_world.specs.Stands.{Engine, Stands}
 use Rattle.engine_world.specs.Worlds.{World}
 use Rattle.engine.specs.Frames.{HasGivenWay}
-use Rattle.ckpt_step.specs.Checkpoints.{IsCheckpointOf, IsRowsOf}
+use Rattle.ckpt_content.specs.Checkpoints.{IsCheckpointOf, IsRowsOf}
 use Rattle.ckpt_step.specs.Floors.{AreLivesOn, Follows}
 use Rattle.ckpt_step.specs.Grounds.{StandsOn}
 use Rattle.ckpt_step.specs.Lives.{NoneLive}

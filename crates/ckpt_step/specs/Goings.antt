@@ -29,7 +29,7 @@ use Rattle.tree_write.specs.Sizes.{LacksAll, WritesTree}
 use Rattle.tree_write.specs.Drafts.{IsCutBy}
 use Rattle.tree_write.specs.Steps.{links_in}
 use Rattle.tree_write.specs.Writes.{KeepSame, LeadApart, MayWriteOver}
-use Rattle.ckpt_step.specs.Checkpoints.{AreRowsOf, IsRowsOf}
+use Rattle.ckpt_content.specs.Checkpoints.{AreRowsOf, IsRowsOf}
 use Rattle.ckpt_step.specs.Floors.{IsAsItLies}
 use Rattle.ckpt_step.specs.Grounds.{IsSince}
 use Rattle.ckpt_step.specs.Halves.{ByLeaves, Half, IsNewBlock}

@@ -1,6 +1,7 @@
 -- On what the next checkpoint stands.
-use Rattle.std.specs.Prelude.{◌≡◌, ◌≢◌, ℕ, ◌+◌, ◌*◌, ◌<◌, ◌≤◌, true, false, List, [], length, Option, Some, None, slice_get}
+use Rattle.std.specs.Prelude.{◌≡◌, ◌≢◌, ℕ, ◌+◌, ◌*◌, ◌<◌, ◌≤◌, true, false, List, [], ◌∷◌, length, map, Option, Some, None, slice_get}
 use Rattle.std.specs.List.{Contains}
+use Rattle.device_layout.specs.declared.addr.Addr.{Addr}
 use Rattle.extent_list.specs.Space.{end_of}
 use Rattle.block_mgr.specs.declared.cell.Cell.{Cell}
 use Rattle.block_mgr.specs.declared.found.Found.{Found}
@@ -8,16 +9,17 @@ use Rattle.block_mgr.specs.Cells.{AreUnits, cell_at, nothing}
 use Rattle.block_mgr.specs.Open.{found_cell}
 use Rattle.kv_model.specs.History.{Table}
 use Rattle.kv_model.specs.Holds.{Member}
-use Rattle.stored.specs.Stored.{Stored}
+use Rattle.stored.specs.Blocks.{Block}
+use Rattle.stored.specs.Stored.{Stored, history_blocks}
 use Rattle.stored.specs.TableTree.{TableTree}
 use Rattle.call_steps.specs.declared.hub.Hub.{Hub}
 use Rattle.tree_dir.specs.declared.leaf.Leaf.{Leaf}
 use Rattle.tree_dir.specs.Leaves.{Directory, leaves_of}
-use Rattle.checkpoint_core.specs.Stands.{Stands, chosen_of}
+use Rattle.checkpoint_core.specs.Stands.{Stands, body_blocks, chosen_of}
 use Rattle.tree_open.specs.declared.place.TreePlace.{TreePlace}
-use Rattle.recover_open.specs.Bare.{IsBare}
-use Rattle.recover_open.specs.Damage.{blocks_found}
-use Rattle.tree_write.specs.Captures.{AreDistinct}
+use Rattle.device_leaf.specs.Damage.{record_found}
+use Rattle.recover_open.specs.Damage.{found_there}
+use Rattle.tree_write.specs.Captures.{AreDistinct, places_of}
 use Rattle.tree_write.specs.Steps.{links_in}
 use Rattle.tree_write.specs.Writes.{LeadApart}
 use Rattle.ckpt_step.specs.declared.ground.Ground.{Ground}
@@ -32,10 +34,15 @@ abbrev pub number_of : Option Stored → ℕ
 number_of None = 0
 number_of (Some s) = s.kept.sequence
 
--- the blocks that an opening finds
+-- the blocks that an opening finds: that of the record, those of the trees, by table, and those of the history
 abbrev pub found_in : Option Stored → List Found
 found_in None = []
-found_in (Some s) = blocks_found s.slot s.kept.tables s.trees
+found_in (Some s) = record_found s.slot ∷ map {A = Block} (λ b. found_there b.place) (body_blocks s)
+
+-- where the blocks of its history stand
+abbrev pub history_places : Option Stored → List Addr
+history_places None = []
+history_places (Some s) = places_of (history_blocks s.kept s.history)
 
 -- the cell at a unit as the next checkpoint begins, with the blocks of the leaves that were written since
 abbrev pub start_cell : Option Stored → List Lone → ℕ → Cell
@@ -87,7 +94,6 @@ AreLedTo known lives leaves = (x : Lone) → Member x lives → IsLedTo known le
 
 -- The checkpoint has the first of these tables, as many as there are places, each with its tree there, which has the parts of the table's leaves.
 pub record HasRoots (known : List Table) (lives : List Lone) (leaves : List Leaf) (written : Written) (places : List TreePlace) (s : Stored) : Type 0 where
-  pub bare : IsBare s.kept
   pub few : length places ≤ length known
   pub count : length s.kept.tables ≡ length places
   pub trees : (i : ℕ) (t : Table) (place : TreePlace) → slice_get known i ≡ Some t → slice_get places i ≡ Some place → (tree : TableTree) × HasTreeAt (Some s) t place tree × IsParted lives leaves t.number written place tree
@@ -112,6 +118,7 @@ pub record StandsOn (seen : List ℕ) (images : List ℕ → Type 0) (hub : Hub)
   pub long : 8192 ≤ length seen
   pub within : end_of g.place.blocks.space ≤ length seen
   pub roots : AreRoots hub.tables.tables g.lives hub.dir.leaves (known_in g.parts) g.trees.items old
+  pub history : g.history.items ≡ history_places old
   pub written : AreWritten hub.tables.tables g.lives hub.dir (known_in g.parts) g.trees.items
   pub since : AreSince old g.lives hub.dir (known_in g.parts)
   pub led : AreLedTo hub.tables.tables g.lives hub.dir.leaves

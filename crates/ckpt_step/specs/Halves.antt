@@ -1,5 +1,5 @@
--- A checkpoint that is half written: the trees of the first tables are captured.
-use Rattle.std.specs.Prelude.{◌≡◌, ◌⊎◌, ◌+◌, ◌*◌, ◌/◌, ◌≤◌, ◌==◌, ℕ, Bool, true, false, List, [], length, Option, Some, Result, Ok, Err, slice_get, if◌then◌else◌}
+-- A checkpoint that is half written: the trees of the first tables are captured, or all of them and the history.
+use Rattle.std.specs.Prelude.{◌≡◌, ◌⊎◌, ◌+◌, ◌*◌, ◌/◌, ◌≤◌, ◌==◌, ◌++◌, ℕ, Bool, true, false, List, [], length, Option, Some, Result, Ok, Err, slice_get, if◌then◌else◌}
 use Rattle.std.specs.List.{Contains, fold}
 use Rattle.disk_model.specs.Crash.{Keeps, LeavesOnly}
 use Rattle.disk_model.specs.declared.disk.Disk.{Ghosts}
@@ -13,22 +13,25 @@ use Rattle.wt_code.specs.declared.store_error.StoreError.TheVariants.{NoSpace}
 use Rattle.kv_model.specs.History.{Table}
 use Rattle.kv_model.specs.Holds.{Member}
 use Rattle.row_page.specs.Rows.{Row}
-use Rattle.stored.specs.Blocks.{Apart}
+use Rattle.stored.specs.Blocks.{Apart, Block}
+use Rattle.stored.specs.HistoryTree.{HistoryTree, history_kind, history_root_entry}
+use Rattle.stored.specs.Records.{Root}
 use Rattle.stored.specs.Stored.{Stored}
 use Rattle.stored.specs.TableTree.{TableTree}
-use Rattle.stored.specs.Tree.{join}
+use Rattle.stored.specs.Tree.{join, tree_blocks}
 use Rattle.tree_dir.specs.declared.leaf.Leaf.{Leaf}
 use Rattle.engine_world.specs.Worlds.{World}
 use Rattle.checkpoint_core.specs.Stands.{Stands, AreInUse}
 use Rattle.checkpoint_core.specs.Finishes.{IsOld}
 use Rattle.tree_open.specs.declared.place.TreePlace.{TreePlace}
-use Rattle.tree_write.specs.Captures.{IsSafe, with_addrs}
+use Rattle.hist_open.specs.Trees.{HasHistory}
+use Rattle.tree_write.specs.Captures.{IsSafe, places_of, with_addrs}
 use Rattle.tree_write.specs.Steps.{links_in}
 use Rattle.tree_write.specs.Writes.{KeepSame}
-use Rattle.ckpt_step.specs.Checkpoints.{AreRowsOf}
+use Rattle.ckpt_content.specs.Checkpoints.{AreRowsOf, IsHistoryOf}
 use Rattle.ckpt_step.specs.Floors.{IsAsItLies}
 use Rattle.ckpt_step.specs.Grounds.{start_cell}
-use Rattle.ckpt_step.specs.Sizes.{PlacesTables, LacksTables}
+use Rattle.ckpt_step.specs.Sizes.{LacksBody, LacksTables, PlacesBody, PlacesTables}
 use Rattle.ckpt_step.specs.Parts.{AreOfLeaves, IsParted, part_leaves, part_of, with_parts}
 use Rattle.ckpt_step.specs.Rooms.{Written}
 use Rattle.ckpt_step.specs.Trees.{AreTreesAt, addrs_of, trees_blocks}
@@ -96,8 +99,8 @@ pub record AreOldBlocks (old : Option Stored) (lives : List Lone) (addrs : List 
   pub all : (u : ℕ) → (start_cell old lives u).is_live ≡ true → (a : Addr) × Member a addrs × (a.offset ≡ 8192 + 4096 * u)
 
 -- the same addresses, in whatever order
-abbrev pub AreListed : List Addr → List TreePlace → Type 0
-AreListed captured places = (a : Addr) → (Member a captured → Member a (addrs_of places)) × (Member a (addrs_of places) → Member a captured)
+abbrev pub AreListed : List Addr → List Addr → Type 0
+AreListed captured addrs = (a : Addr) → (Member a captured → Member a addrs) × (Member a addrs → Member a captured)
 
 -- The running checkpoint has these blocks, in the order in which it captured them, and the checkpoint before stands as it did.
 pub record Runs (seen : List ℕ) (images : List ℕ → Type 0) (books : Books) (old : Option Stored) (lives : List Lone) (captured : List Addr) : Type 0 where
@@ -115,7 +118,25 @@ pub record Half (seen : List ℕ) (images : List ℕ → Type 0) (books : Books)
   pub there : AreTreesAt seen places trees
   pub in_use : AreInUse books.cells (trees_blocks places trees)
   pub apart : Apart (trees_blocks places trees)
-  pub listed : AreListed captured places
+  pub listed : AreListed captured (addrs_of places)
+
+-- the blocks of a history, and those of trees and of a history
+abbrev pub older_blocks : Root → HistoryTree → List Block
+older_blocks root history = tree_blocks history_kind (history_root_entry root.link) history
+
+abbrev pub made_blocks : List TreePlace → List TableTree → Root → HistoryTree → List Block
+made_blocks places trees root history = trees_blocks places trees ++ older_blocks root history
+
+-- The trees of all tables and the history are on the device, at their places, and nothing else is captured. stand: where the blocks of the history are.
+pub record Body (seen : List ℕ) (images : List ℕ → Type 0) (books : Books) (old : Option Stored) (lives : List Lone) (captured : List Addr) (places : List TreePlace) (trees : List TableTree) (root : Root) (history : HistoryTree) (stand : List Addr) : Type 0 where
+  pub runs : Runs seen images books old lives captured
+  pub held : books.is_held ≡ true
+  pub there : AreTreesAt seen places trees
+  pub has : HasHistory seen root history
+  pub in_use : AreInUse books.cells (made_blocks places trees root history)
+  pub apart : Apart (made_blocks places trees root history)
+  pub stand_is : stand ≡ places_of (older_blocks root history)
+  pub listed : AreListed captured (addrs_of places ++ stand)
 
 -- by table and leaf, an image that the checkpoint before has at the same place in the leaf, with the same rows, stands where it did
 abbrev pub TreesKeep : List ℕ → List Table → List Leaf → Written → List TreePlace → List TableTree → Written → Type 0
@@ -166,3 +187,31 @@ module _ {D : Type 0} (g : Ghosts D) (old : Option Stored) (lives : List Lone) (
   abbrev pub Writes : Result (Unit {0}) StoreError → Type 0
   Writes (Ok done) = AllWritten
   Writes (Err e) = SomeWritten e
+
+-- ---- and then the history
+
+module _ {D : Type 0} (g : Ghosts D) (old : Option Stored) (lives : List Lone) (w : World) (known : List Table) (leaves : List Leaf) (had : Written) (books books' : Books) (places : List TreePlace) (more : List LeafPart) (captured : List Addr) (before after : D) where
+  -- all trees are captured, and the history at this root, whose blocks are there
+  pub record AllTaken (root : Root) (stand : List Addr) : Type 0 where
+    pub trees : List TableTree
+    pub history : HistoryTree
+    pub body : Body (g.seen after) (g.may_leave after) books' old lives captured places trees root history stand
+    pub rows : AreRowsOf w.machine known trees
+    pub older : IsHistoryOf w.machine (join history.leaves)
+    pub left : LeavesOnly g before after (IsOld (g.may_leave before) old)
+    pub keeps : Keeps (Has books.cells) (g.seen before) (g.seen after)
+    pub used : (at n : ℕ) → Has books.cells at n → Has books'.cells at n
+    pub placed : PlacesBody (g.seen before) (g.capacity before) old leaves had w.machine books.space known books'.space
+    pub by_leaves : ByLeaves (g.seen before) known leaves had w.shelf places trees (with_parts had more)
+    pub of_leaves : AreOfLeaves leaves more
+
+  -- some blocks are
+  pub record SomeTaken (e : StoreError) : Type 0 where
+    pub runs : IsSafe e → Runs (g.seen after) (g.may_leave after) books' old lives captured
+    pub left : LeavesOnly g before after (IsOld (g.may_leave before) old)
+    pub keeps : IsSafe e → Keeps (Has books.cells) (g.seen before) (g.seen after)
+    pub lacks : e ≡ NoSpace → LacksBody (g.seen before) (g.capacity before) old leaves had w.machine books.space known
+
+  abbrev pub TakesAll : Root → List Addr → Result (Unit {0}) StoreError → Type 0
+  TakesAll root stand (Ok done) = AllTaken root stand
+  TakesAll root stand (Err e) = SomeTaken e

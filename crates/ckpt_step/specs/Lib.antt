@@ -1,16 +1,12 @@
-pub mod Checkpoints
 pub mod Grounds
 pub mod Sizes
 pub mod Takes
-pub mod Laws
 pub mod Halves
 pub mod Records
-pub mod Plain
 pub mod Runs
 pub mod Frees
 pub mod Trees
 pub mod Goings
-pub mod Calm
 pub mod Keeps
 pub mod Floors
 pub mod Parts

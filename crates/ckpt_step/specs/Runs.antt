@@ -1,5 +1,5 @@
 -- What the writing of a checkpoint leaves, step by step.
-use Rattle.std.specs.Prelude.{◌≡◌, ◌⊎◌, ℕ, ◌*◌, ◌/◌, ◌≤◌, false, List, [], length, Option, Some, Result, Ok, Err}
+use Rattle.std.specs.Prelude.{◌≡◌, ◌⊎◌, ◌++◌, ℕ, ◌*◌, ◌/◌, ◌≤◌, false, List, [], length, Option, Some, Result, Ok, Err}
 use Rattle.disk_model.specs.Crash.{Each, Keeps, LeavesOnly}
 use Rattle.disk_model.specs.declared.disk.Disk.{Ghosts}
 use Rattle.extent_list.specs.Space.{end_of}
@@ -16,17 +16,18 @@ use Rattle.wt_code.specs.StoreErrors.{refusal_of}
 use Rattle.stamp.specs.declared.Name.{Name}
 use Rattle.kv_model.specs.History.{Table}
 use Rattle.kv_model.specs.Machine.{Machine}
-use Rattle.stored.specs.Records.{Record, IsRecord, record_image}
+use Rattle.stored.specs.HistoryTree.{HistoryTree}
+use Rattle.stored.specs.Records.{Record, IsRecord, Root, record_image}
 use Rattle.stored.specs.Stored.{Stored, IsOn}
 use Rattle.stored.specs.TableTree.{TableTree}
 use Rattle.checkpoint_core.specs.Stands.{AreInUse}
 use Rattle.checkpoint_core.specs.Finishes.{IsOld, IsEither}
 use Rattle.tree_open.specs.declared.place.TreePlace.{TreePlace}
-use Rattle.recover_open.specs.Bare.{bare_stored}
-use Rattle.tree_write.specs.Captures.{IsSafe}
+use Rattle.recover_open.specs.Bare.{stored_with}
+use Rattle.tree_write.specs.Captures.{IsSafe, places_of}
 use Rattle.engine_world.specs.Stands.{Engine}
 use Rattle.engine_world.specs.Systems.{with_fault}
-use Rattle.ckpt_step.specs.Checkpoints.{IsCheckpointOf, IsRecordOf}
+use Rattle.ckpt_content.specs.Checkpoints.{IsCheckpointOf, IsRecordOf}
 use Rattle.ckpt_step.specs.Floors.{AreLivesOn, Follows, FollowsFrom, Respects}
 use Rattle.ckpt_step.specs.Parts.{AreOfLeaves, with_parts}
 use Rattle.ckpt_step.specs.Rooms.{Written, known_in}
@@ -36,34 +37,36 @@ use Rattle.engine_world.specs.Worlds.{World}
 use Rattle.ckpt_step.specs.declared.lives.Lone.{Lone}
 use Rattle.ckpt_step.specs.declared.parts.LeafPart.{LeafPart}
 use Rattle.ckpt_step.specs.Grounds.{StandsOn, number_of}
-use Rattle.ckpt_step.specs.Halves.{AreListed, AreOwn, ByLeaves, IsFresh, Runs, done_at, half_cell}
+use Rattle.ckpt_step.specs.Halves.{AreListed, AreOwn, ByLeaves, IsFresh, Runs, done_at, half_cell, made_blocks, older_blocks}
 use Rattle.ckpt_step.specs.Records.{roots_by_name, trees_by_name}
 use Rattle.ckpt_step.specs.Sizes.{HasPlaces, HasRoomFor, IsFullFor, KeepsLeaves, LacksPlace}
-use Rattle.ckpt_step.specs.Trees.{AreTreesAt, roots_of, trees_blocks}
+use Rattle.ckpt_step.specs.Trees.{AreTreesAt, addrs_of, roots_of}
 use Rattle.ckpt_step.specs.declared.ground.Ground.{Ground}
 
--- the image of the record of a checkpoint of the machine with the trees at these places
-pub record IsImageOf (m : Machine) (number : ℕ) (known : List Table) (places : List TreePlace) (image : List ℕ) : Type 0 where
+-- the image of the record of a checkpoint of the machine with the trees at these places, and the history at this root
+pub record IsImageOf (m : Machine) (number : ℕ) (known : List Table) (places : List TreePlace) (root : Root) (image : List ℕ) : Type 0 where
   pub r : Record
   pub admitted : IsRecord r
   pub is : IsRecordOf m number r
+  pub history : r.history ≡ root
   pub tables : r.tables ≡ roots_by_name known (roots_of places)
   pub spelled : image ≡ record_image r
 
--- the checkpoint of these trees, by place, whose record stands at an address
-abbrev pub made_of : Record → List Table → List TableTree → Addr → Stored
-made_of r known trees a = bare_stored (slot_at r.sequence a) r (trees_by_name known trees)
+-- the checkpoint of these trees, by place, and of this history, whose record stands at an address
+abbrev pub made_of : Record → List Table → List TableTree → HistoryTree → Addr → Stored
+made_of r known trees history a = stored_with (slot_at r.sequence a) r (trees_by_name known trees) history
 
--- The checkpoint of these trees is the last completed one, and those of the checkpoint before are still in the live tree. half: the cells as the record was written.
-pub record IsDone (seen : List ℕ) (books : Books) (old : Option Stored) (lives : List Lone) (known : List Table) (places : List TreePlace) (trees : List TableTree) (captured : List Addr) (r : Record) (a : Addr) : Type 0 where
-  pub on : IsOn seen (made_of r known trees a)
+-- The checkpoint of these trees and this history is the last completed one, and the blocks of the checkpoint before are still in the live tree. stand: where those of the history are; half: the cells as the record was written.
+pub record IsDone (seen : List ℕ) (books : Books) (old : Option Stored) (lives : List Lone) (known : List Table) (places : List TreePlace) (trees : List TableTree) (history : HistoryTree) (stand captured : List Addr) (r : Record) (a : Addr) : Type 0 where
+  pub on : IsOn seen (made_of r known trees history a)
   pub tables : r.tables ≡ roots_by_name known (roots_of places)
   pub bytes : List ℕ
   pub there : AreTreesAt bytes places trees
+  pub stand_is : stand ≡ places_of (older_blocks r.history history)
   pub half : List Cell
   pub half_are : (u : ℕ) → cell_at half u ≡ half_cell old lives captured u
-  pub half_use : AreInUse half (trees_blocks places trees)
-  pub listed : AreListed captured places
+  pub half_use : AreInUse half (made_blocks places trees r.history history)
+  pub listed : AreListed captured (addrs_of places ++ stand)
   pub own : AreOwn old lives captured
   pub fresh : IsFresh old lives captured a
   pub sized : a.size ≡ 4096 * (a.size / 4096)
@@ -78,19 +81,20 @@ module _ {D : Type 0} (g : Ghosts D) (old : Option Stored) (m : Machine) (before
   LeavesOne = LeavesOnly g before after (IsOld (g.may_leave before) old) ⊎ ((new : Stored) × IsCheckpointOf m (number_of old) new × LeavesOnly g before after (IsEither (g.may_leave before) old new))
 
 -- had: what the checkpoint before has of the leaves of the directory; more: the leaves that are written now
-module _ {D : Type 0} (g : Ghosts D) (old : Option Stored) (lives : List Lone) (w : World) (known : List Table) (leaves : List Leaf) (had : Written) (books books' : Books) (places : List TreePlace) (more : List LeafPart) (captured : List Addr) (before after : D) where
+module _ {D : Type 0} (g : Ghosts D) (old : Option Stored) (lives : List Lone) (w : World) (known : List Table) (leaves : List Leaf) (had : Written) (books books' : Books) (places : List TreePlace) (stand : List Addr) (more : List LeafPart) (captured : List Addr) (before after : D) where
   -- all blocks are written, and the record is installed
   pub record AllPut (a : Addr) : Type 0 where
     pub r : Record
     pub trees : List TableTree
-    pub is : IsCheckpointOf w.machine (number_of old) (made_of r known trees a)
-    pub left : LeavesOnly g before after (IsEither (g.may_leave before) old (made_of r known trees a))
-    pub each : Each (g.may_leave after) (λ c. IsOn c (made_of r known trees a))
+    pub history : HistoryTree
+    pub is : IsCheckpointOf w.machine (number_of old) (made_of r known trees history a)
+    pub left : LeavesOnly g before after (IsEither (g.may_leave before) old (made_of r known trees history a))
+    pub each : Each (g.may_leave after) (λ c. IsOn c (made_of r known trees history a))
     pub placed : HasPlaces (g.seen before) (g.capacity before) old leaves had w.machine books.space known
     pub by_leaves : ByLeaves (g.seen before) known leaves had w.shelf places trees (with_parts had more)
     pub of_leaves : AreOfLeaves leaves more
-    pub done : IsDone (g.seen after) books' old lives known places trees captured r a
-    pub follows : (floor : Name) → Respects w.machine floor → FollowsFrom (Some (made_of r known trees a)) known [] leaves (with_parts had more) places floor w
+    pub done : IsDone (g.seen after) books' old lives known places trees history stand captured r a
+    pub follows : (floor : Name) → Respects w.machine floor → FollowsFrom (Some (made_of r known trees history a)) known [] leaves (with_parts had more) places floor w
 
   -- they are not
   pub record SomePut (e : StoreError) : Type 0 where

@@ -9,10 +9,10 @@ use Rattle.row_page.specs.Rows.{Row}
 use Rattle.stored.specs.Blocks.{Block}
 use Rattle.stored.specs.Records.{Root, Record, TableRoot, record_image}
 use Rattle.stored.specs.Stored.{Stored}
+use Rattle.stored.specs.HistoryTree.{HistoryRecord, HistoryTree}
 use Rattle.stored.specs.TableTree.{TableTree}
 use Rattle.checkpoint_core.specs.Stands.{HasStill, blocks_of}
 use Rattle.checkpoint_core.specs.Room.{InBlocks, end_of}
-use Rattle.recover_open.specs.Bare.{tree_rows}
 use Rattle.tree_dir.specs.declared.leaf.Leaf.{Leaf}
 use Rattle.tree_dir.specs.Leaves.{leaves_of}
 use Rattle.tree_open.specs.declared.place.TreePlace.{TreePlace}
@@ -22,7 +22,8 @@ use Rattle.tree_write.specs.Cuts.{AreFullLeaves}
 use Rattle.tree_write.specs.Sizes.{PlacesAll, LacksAll, WritesLeaves, WritesTree}
 use Rattle.stored.specs.Tree.{join}
 use Rattle.tree_write.specs.Writes.{KeepSame}
-use Rattle.ckpt_step.specs.Checkpoints.{IsRecordOf, IsRowsOf}
+use Rattle.hist_write.specs.Cuts.{IsCut, captured_blocks, sizes_of}
+use Rattle.ckpt_content.specs.Checkpoints.{IsHistoryOf, IsRecordOf, IsRowsOf}
 use Rattle.ckpt_step.specs.Floors.{AreNewestIn}
 use Rattle.ckpt_step.specs.Grounds.{number_of}
 use Rattle.ckpt_step.specs.Lives.{lone_blocks}
@@ -40,7 +41,7 @@ KeepsLeaves bytes known leaves before new places written =
 -- the checkpoint has a tree of the table with these rows
 abbrev pub HasRowsOf : Option Stored → Table → List Row → Type 0
 HasRowsOf None t rows = ⊥
-HasRowsOf (Some s) t rows = (r : TableRoot) × (tree : TableTree) × IsPair r tree s.kept.tables s.trees × (r.table ≡ t) × (tree_rows tree ≡ rows)
+HasRowsOf (Some s) t rows = (r : TableRoot) × (tree : TableTree) × IsPair r tree s.kept.tables s.trees × (r.table ≡ t) × (join tree.leaves ≡ rows)
 
 -- by leaf of a table, the images have the newest version of each key that lies in the leaf
 abbrev pub AreNewestOf : Machine → List Leaf → ℕ → List Leaf → List (List (List Row)) → Type 0
@@ -89,17 +90,34 @@ module _ (bytes : List ℕ) (capacity : ℕ) (old : Option Stored) (leaves : Lis
   LacksTables space [] = ⊥
   LacksTables space (t ∷ tables) = ((front : List Leaf) × LacksFront bytes capacity leaves written m t.number space front) ⊎ ((sizes : List ℕ) × TableWrites t sizes × (LacksAll space capacity sizes ⊎ ((next : Space) × PlacesAll space capacity sizes next × LacksTables next tables)))
 
+  -- the history has the older versions that a read can want, cut into full pages: what its blocks have, in turn
+  pub record HistoryWrites (sizes : List ℕ) : Type 0 where
+    pub records : List HistoryRecord
+    pub are : IsHistoryOf m records
+    pub root : Root
+    pub tree : HistoryTree
+    pub cut : IsCut root records tree
+    pub sizes_are : sizes ≡ sizes_of (captured_blocks root tree)
+
+  -- the trees and then the history have places
+  abbrev pub PlacesBody : Space → List Table → Space → Type 0
+  PlacesBody space known last = (mid : Space) × (sizes : List ℕ) × PlacesTables space known mid × HistoryWrites sizes × PlacesAll mid capacity sizes last
+
+  -- one of the trees has none, or the history behind them
+  abbrev pub LacksBody : Space → List Table → Type 0
+  LacksBody space known = LacksTables space known ⊎ ((mid : Space) × (sizes : List ℕ) × PlacesTables space known mid × HistoryWrites sizes × LacksAll mid capacity sizes)
+
   -- the block of the record
   abbrev pub IsRecordSize : ℕ → Type 0
   IsRecordSize size = (r : Record) × IsRecordOf m (number_of old) r × (size ≡ block_size (length (record_image r)))
 
-  -- one of the trees has no place, or the record behind them has none
+  -- one of the trees has no place, or the history, or the record behind them
   abbrev pub LacksPlace : Space → List Table → Type 0
-  LacksPlace space known = LacksTables space known ⊎ ((last : Space) × (size : ℕ) × PlacesTables space known last × IsRecordSize size × HasNoRoom last size capacity)
+  LacksPlace space known = LacksBody space known ⊎ ((last : Space) × (size : ℕ) × PlacesBody space known last × IsRecordSize size × HasNoRoom last size capacity)
 
   -- each has one
   abbrev pub HasPlaces : Space → List Table → Type 0
-  HasPlaces space known = (last : Space) × (size : ℕ) × (after : Space) × (at : ℕ) × PlacesTables space known last × IsRecordSize size × Taken last after size capacity at
+  HasPlaces space known = (last : Space) × (size : ℕ) × (after : Space) × (at : ℕ) × PlacesBody space known last × IsRecordSize size × Taken last after size capacity at
 
 -- What is free beside the blocks, up to an end within the device: behind it a block may only be put.
 pub record IsFreeSpace (bytes : List ℕ) (blocks : List Block) (space : Space) : Type 0 where
@@ -108,7 +126,7 @@ pub record IsFreeSpace (bytes : List ℕ) (blocks : List Block) (space : Space) 
   pub free : (b : ℕ) → IsFree space b → (8192 ≤ b) × (b < space_end space) × (InBlocks blocks b → ⊥)
   pub rest : (b : ℕ) → 8192 ≤ b → b < space_end space → (InBlocks blocks b → ⊥) → IsFree space b
 
--- The device has no room for the next checkpoint of an engine with these leaves, of which some were written since the last one. The trees are written in the order in which their tables were made, each from its leaves up, and then the record.
+-- The device has no room for the next checkpoint of an engine with these leaves, of which some were written since the last one. The trees are written in the order in which their tables were made, each from its leaves up, then the history, and then the record.
 pub record IsFullFor (bytes : List ℕ) (capacity : ℕ) (lives : List Lone) (leaves : List Leaf) (written : Written) (m : Machine) : Type 0 where
   pub old : Option Stored
   pub has : HasStill old bytes

@@ -5,7 +5,7 @@ use Rattle.call_steps.specs.declared.frame.Frame.{Frame}
 use Rattle.engine_world.specs.Leaves.{frame_in}
 use Rattle.engine_world.specs.Stands.{Engine, Stands}
 use Rattle.engine_world.specs.Worlds.{World}
-use Rattle.leaf_capture.specs.Capture.{ChainsFit}
+use Rattle.reconcile.specs.Capture.{ChainsFit}
 use Rattle.leaf_frame.specs.Leaf.{HeldLeaf}
 use Rattle.leaf_frame.specs.Updates.{NoneAbove}
 use Rattle.leaf_rows.specs.Rows.{AreFit}

@@ -16,7 +16,7 @@ use Rattle.engine_world.specs.Systems.{checkpointed, with_fault}
 use Rattle.engine_world.specs.Worlds.{World}
 use Rattle.engine.specs.Checkpoints.{MayStart}
 use Rattle.ckpt_step.specs.declared.ground.Ground.{Ground}
-use Rattle.ckpt_step.specs.Checkpoints.{IsCheckpointOf}
+use Rattle.ckpt_content.specs.Checkpoints.{IsCheckpointOf}
 use Rattle.ckpt_step.specs.Floors.{AreLivesOn, Follows}
 use Rattle.ckpt_step.specs.declared.lives.Lone.{Lone}
 use Rattle.ckpt_step.specs.Rooms.{Written, known_in}

@@ -1,5 +1,5 @@
 -- What the writing out of a leaf answers, and what it leaves.
-use Rattle.std.specs.Prelude.{◌≡◌, ◌⊎◌, ℕ, ◌<◌, Bool, true, false, List, [], ◌++◌, Option, None, Some, Result, Ok, Err}
+use Rattle.std.specs.Prelude.{◌≡◌, ◌⊎◌, ℕ, ◌<◌, ◌≤◌, Bool, true, false, List, [], ◌++◌, Option, None, Some, Result, Ok, Err}
 use Rattle.std.specs.List.{Contains}
 use Rattle.failure.specs.Counts.{Rose}
 use Rattle.failure.specs.declared.Fault.{Fault}
@@ -91,6 +91,7 @@ module _ {D : Type 0} (g : Ghosts D) (old : Option Stored) (w : World) (stand st
   pub record WrittenOut : Type 0 where
     pub entries : List Entry
     pub way : HasGivenWay e e' id entries
+    pub ids : e.hub.dir.next ≤ e'.hub.dir.next
     pub left : LeavesOnly g before after (IsOld (g.may_leave before) old)
     pub still : StandsStill (g.seen after) (g.may_leave after) old e.hub e'.hub stand' w (leaves_with way.leaf.table way.ids entries)
     pub stands : Stands e' (record w { shelf = still.shelf })

@@ -1,6 +1,7 @@
 // What a checkpoint stands on.
 use crate::lives::Lives;
 use crate::parts::Parts;
+use evict_step::Kept;
 use stamp::Name;
 use tree_open::TreePlace;
 
@@ -13,6 +14,8 @@ pub(crate) struct Before<'a> {
     pub parts: &'a Parts,
     // The leaves that were written since.
     pub lives: &'a Lives,
+    // The older versions of leaves that were evicted.
+    pub kept: &'a Kept,
     // Each name before it had ended.
     pub floor: Name,
 }

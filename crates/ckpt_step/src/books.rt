@@ -35,15 +35,16 @@ pub(crate) fn give_up(blocks: &mut Blocks, captured: &[Addr], lives: &Lives)
 }
 
 // The live tree lets go of the blocks of before that are not in the last checkpoint: of the trees that
-// do not stay where they are, and of the leaves that were written since, of which none are left. `O(n)`
-// in these blocks.
+// do not stay where they are, of the history, and of the leaves that were written since, of which none
+// are left. `O(n)` in these blocks.
 pub(crate) fn let_go(
     blocks: &mut Blocks,
     was: &[TreePlace],
     told: &[Option<TreePlace>],
+    history: &[Addr],
     lives: &mut Lives,
 )
-    ensures cells { (old : Option Stored) (captured : List AnAddr) (a : AnAddr) → AreOldBlocks old lives.old (addrs_of was.now ++ addrs_in lives.old) → ((x : AnAddr) → Member x (addrs_of (kept_by was.now told.now)) → Member x captured) → AreOwn old lives.old captured → IsFresh old lives.old captured a → ((u : ℕ) → cell_at blocks.old.cells u ≡ done_at old lives.old captured a u) → (u : ℕ) → cell_at blocks.new.cells u ≡ settled_at captured a u }
+    ensures cells { (old : Option Stored) (captured : List AnAddr) (a : AnAddr) → AreOldBlocks old lives.old (addrs_of was.now ++ (history.now ++ addrs_in lives.old)) → ((x : AnAddr) → Member x (addrs_of (kept_by was.now told.now)) → Member x captured) → AreOwn old lives.old captured → IsFresh old lives.old captured a → ((u : ℕ) → cell_at blocks.old.cells u ≡ done_at old lives.old captured a u) → (u : ℕ) → cell_at blocks.new.cells u ≡ settled_at captured a u }
     ensures none { lives.new ≡ [] }
     ensures end { end_of blocks.new.space ≡ end_of blocks.old.space }
     ensures units { AreUnits blocks.old.cells blocks.old.space → AreUnits blocks.new.cells blocks.new.space }
@@ -51,6 +52,7 @@ pub(crate) fn let_go(
     ensures held { blocks.new.is_held ≡ blocks.old.is_held }
 {
     let_go_trees(blocks, was, told);
+    let_go_unless_last(blocks, history);
     let_go_lives(blocks, lives);
 }
 

@@ -30,9 +30,9 @@ pub(crate) fn leave_empty(
     ensures left { IfOk result (λ left. IsTrue left → HasLeftEmpty engine.old engine.new ground.old ground.new leaf) }
     ensures not { IfOk result (λ left. left ≡ false → (engine.new ≡ engine.old) × (ground.new ≡ ground.old)) }
     ensures kept { OnErr result ((engine.new ≡ engine.old) × (ground.new ≡ ground.old)) }
-    ensures history { ground.new.kept ≡ ground.old.kept }
     ensures number { ground.new.number ≡ ground.old.number }
     ensures trees { ground.new.trees ≡ ground.old.trees }
+    ensures stood { ground.new.history ≡ ground.old.history }
     ensures sessions { length engine.new.sessions ≡ length engine.old.sessions }
     ensures hub { (engine.new.hub.tables ≡ engine.old.hub.tables) × (engine.new.hub.txns ≡ engine.old.hub.txns) }
 {
@@ -42,6 +42,7 @@ pub(crate) fn leave_empty(
     match engine.evict(leaf, link) {
         Ok(true) => {
             ground.parts.forget(leaf);
+            ground.kept.forget(leaf);
             Ok(true)
         }
         // It may be evicted, so only memory is wanting.

@@ -57,10 +57,10 @@ pub enum Evicted {
 /// Evicts a leaf to a block of its own, whoever is at work: the newest version of each of its keys is
 /// written as one block that the live tree alone has, and the leaf leaves its frame and leads to it.
 /// Older versions that somebody may still want are kept in memory (`ground.kept`) until the leaf comes
-/// back (`bring_back` of `evict_step`); no checkpoint has them. Where the leaf needs more than one block
-/// it parts: leaves of these blocks take its place, and are in no frame, and of each are kept the older
-/// versions of the keys that lie in it. The next checkpoint keeps the blocks as they stand. Where the leaf was written since the last one before, its
-/// former block is free again.
+/// back (`bring_back` of `evict_step`), and a checkpoint writes them in its history. Where the leaf needs
+/// more than one block it parts: leaves of these blocks take its place, and are in no frame, and of each
+/// are kept the older versions of the keys that lie in it. The next checkpoint keeps the blocks as they
+/// stand. Where the leaf was written since the last one before, its former block is free again.
 ///
 /// Where the leaf holds no key it leaves its frame without a block, if the last checkpoint has its table
 /// and no rows of it.
@@ -88,6 +88,7 @@ pub fn evict<D: Disk>(
     ensures fault { IfErr result (λ r. r ≡ Refusal.DiskFault → Rose (D.faults disk.old) (D.faults disk.new)) }
     ensures number { ground.new.number ≡ ground.old.number }
     ensures trees { ground.new.trees ≡ ground.old.trees }
+    ensures stood { ground.new.history ≡ ground.old.history }
     ensures sessions { length engine.new.sessions ≡ length engine.old.sessions }
     ensures hub { (engine.new.hub.tables ≡ engine.old.hub.tables) × (engine.new.hub.txns ≡ engine.old.hub.txns) }
     ensures engine { EvictsEngine engine.old engine.new leaf result }
@@ -136,6 +137,7 @@ fn evict_whole<D: Disk>(
     ensures fault { IfErr result (λ r. r ≡ Refusal.DiskFault → Rose (D.faults disk.old) (D.faults disk.new)) }
     ensures number { ground.new.number ≡ ground.old.number }
     ensures trees { ground.new.trees ≡ ground.old.trees }
+    ensures stood { ground.new.history ≡ ground.old.history }
     ensures sessions { length engine.new.sessions ≡ length engine.old.sessions }
     ensures hub { (engine.new.hub.tables ≡ engine.old.hub.tables) × (engine.new.hub.txns ≡ engine.old.hub.txns) }
     ensures engine { EvictsEngine engine.old engine.new leaf result }
@@ -173,6 +175,7 @@ fn put_back<D: Disk>(
     ensures history { ground.new.kept ≡ ground.old.kept }
     ensures number { ground.new.number ≡ ground.old.number }
     ensures trees { ground.new.trees ≡ ground.old.trees }
+    ensures stood { ground.new.history ≡ ground.old.history }
     ensures sessions { length engine.new.sessions ≡ length engine.old.sessions }
     ensures hub { (engine.new.hub.tables ≡ engine.old.hub.tables) × (engine.new.hub.txns ≡ engine.old.hub.txns) }
     ensures fault { IfErr result (λ e. IsOfDisk e → Rose (D.faults disk.old) (D.faults disk.new)) }

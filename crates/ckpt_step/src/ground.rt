@@ -1,6 +1,7 @@
 // On what the next checkpoint of an engine stands.
 use crate::lives::Lives;
 use crate::parts::Parts;
+use device_layout::Addr;
 use device_leaf::Place;
 use evict_step::Kept;
 use stamp::Name;
@@ -22,7 +23,9 @@ pub struct Ground {
     pub parts: Parts,
     /// The leaves that were written since, each as one block.
     pub lives: Lives,
-    /// The older versions of leaves that were evicted, which are in no frame. No checkpoint has them.
+    /// Where the blocks of its history stand.
+    pub history: Vec<Addr>,
+    /// The older versions of leaves that were evicted, which are in no frame.
     pub kept: Kept,
     /// Each name before it had ended at the last checkpoint that this engine took. No name is before
     /// run 0 and id 0, with which an engine begins.

@@ -1,43 +1,10 @@
-// Laws of checkpoints, and of machines on which no commit had a stamp.
-ghost use Rattle.ckpt_step.specs.Laws.{CheckpointsOpen};
-ghost use Rattle.ckpt_step.specs.Calm.{AnswersCalm, KeptCalm, KeptOutCalm, OpensCalm, StartsCalm, StepsCalm, StoresCalm};
+// Laws of checkpoints.
 ghost use Rattle.ckpt_step.specs.Keeps.{EnginesAreOrdinary, FitsAreOrdinary, KeptKeep, KeptOutKeep, StepsKeep};
-ghost use Rattle.ckpt_step.specs.Plain.{OpensPlain, RollsBackPlain, StartsPlain, StaysPlain};
 ghost use Rattle.ckpt_step.specs.Stays.{GroundsLetGo, GroundsStay};
 ghost use Rattle.ckpt_step.specs.Giving.{CheckpointsHaveNewest, GroundsGiveWay};
 
 use disk_model::Disk;
-use stored::what_is_read_is_regular;
 use tree_dir::leaves_give_way;
-
-/// A device that has a checkpoint of a machine, of each key of which the newest version suffices,
-/// opens as the checkpoint that the machine takes.
-pub fn checkpoints_open()
-    ensures { CheckpointsOpen }
-{}
-
-/// The newest version of each key suffices where an engine starts, and after each call but commits
-/// with a stamp, those of a checkpoint, and rollbacks to stable.
-pub fn plain_stays()
-    ensures starts { StartsPlain }
-    ensures opens { OpensPlain }
-    ensures stays { StaysPlain }
-    ensures rolls_back { RollsBackPlain }
-{
-    what_is_read_is_regular();
-}
-
-/// So does it, with the calls that are under way, after each such step and call, after a leaf is kept
-/// from a call, and after a checkpoint in one event, a fault of the device, and a close.
-pub fn calm_stays()
-    ensures starts { StartsCalm }
-    ensures steps { StepsCalm }
-    ensures answers { AnswersCalm }
-    ensures kept { KeptCalm }
-    ensures kept_out { KeptOutCalm }
-    ensures opens { OpensCalm }
-    ensures stores { StoresCalm }
-{}
 
 /// No step or call of an engine, and no leaf that is kept from a call, changes the last completed
 /// checkpoint, starts one, or takes the engine down, whatever the stamps.

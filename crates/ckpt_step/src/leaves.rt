@@ -10,7 +10,7 @@ ghost use Rattle.block_mgr.specs.Blocks.{Books};
 ghost use Rattle.kv_model.specs.History.{Table};
 ghost use Rattle.kv_model.specs.Machine.{of_some};
 ghost use Rattle.row_page.specs.Rows.{Row, is_below, key_most};
-ghost use Rattle.leaf_capture.specs.Capture.{ChainsFit};
+ghost use Rattle.reconcile.specs.Capture.{ChainsFit};
 ghost use Rattle.leaf_rows.specs.Rows.{AreFit};
 ghost use Rattle.reconcile.specs.Images.{AreImages};
 ghost use Rattle.snapshot.specs.Matters.{NoneResolves, SeesCommitted};

@@ -2,9 +2,10 @@
 //!
 //! Stands for the last completed checkpoint of the engine's device (`Ground`): its blocks, its
 //! number, and where its trees stand, beside the blocks of leaves that were written since. Promises
-//! that a checkpoint keeps of each table the newest version of each key, that at each moment the device
-//! has the checkpoint before or the new one, whole, and that what is refused gives back what it wrote;
-//! and that the new one opens as the checkpoint that the machine takes (`checkpoints_open`). Says what
+//! that a checkpoint keeps of each table the newest version of each key, and in the history the older ones
+//! that a read can want (`IsCheckpointOf` of `ckpt_content`, which says that it opens as the machine's);
+//! that at each moment the device has the checkpoint before or the new one, whole, and that what is
+//! refused gives back what it wrote. Says what
 //! may take the place of a leaf that leaves memory, and that the next checkpoint stands then as before;
 //! and writes a leaf that changed out while nobody is at work (`write_out`), or evicts it to a block of
 //! its own, or to several, whoever is (`evict`), so that the next checkpoint keeps its blocks; the older
@@ -40,8 +41,7 @@ pub use evicting::{Evicted, evict};
 pub use giving::entries_in_place;
 pub use ground::Ground;
 pub use laws::{
-    calm_stays, checkpoints_are_kept, checkpoints_have_newest, checkpoints_open, grounds_give_way,
-    grounds_let_go, grounds_stay, plain_stays,
+    checkpoints_are_kept, checkpoints_have_newest, grounds_give_way, grounds_let_go, grounds_stay,
 };
 pub use lives::{Lives, Lone};
 pub use parts::Parts;

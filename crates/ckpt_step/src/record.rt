@@ -6,12 +6,12 @@ ghost use Rattle.txn_table.specs.Tabled.{unended};
 ghost use Rattle.stored.specs.Records.{IsRecord, SnapshotFits};
 ghost use Rattle.engine_world.specs.Stands.{Stands};
 ghost use Rattle.engine_world.specs.Worlds.{World};
-ghost use Rattle.ckpt_step.specs.Checkpoints.{IsRecordOf};
+ghost use Rattle.ckpt_content.specs.Checkpoints.{IsRecordOf};
 ghost use Rattle.ckpt_step.specs.Records.{roots_by_name};
 ghost use Rattle.ckpt_step.specs.Trees.{AreTold, placed_by, roots_of as roots_in};
 
-use crate::roots::{no_root, roots_of};
-use checkpoint_record::{LentRecord, Snapshot as KeptSnapshot};
+use crate::roots::{roots_of, typed};
+use checkpoint_record::{LentRecord, Root, Snapshot as KeptSnapshot};
 use engine::Local;
 use failure::NoMemory;
 use snapshot::Snapshot;
@@ -19,8 +19,8 @@ use std::alloc::Global;
 use tree_open::TreePlace;
 
 // The record of a checkpoint of the engine, whose tables have these trees, by place; where none is
-// told, it stands where it did before. `number` is that of the checkpoint before. The tables' names are
-// lent. The error is want of memory.
+// told, it stands where it did before. `number` is that of the checkpoint before; `history` is the root
+// of the history. The tables' names are lent. The error is want of memory.
 pub(crate) fn record_of<'a>(
     alloc: Global,
     engine: &'a Local,
@@ -28,14 +28,17 @@ pub(crate) fn record_of<'a>(
     number: u64,
     was: &[TreePlace],
     told: &[Option<TreePlace>],
+    history: Root,
 ) -> Result<LentRecord<'a>, NoMemory>
     requires number { number < 2 ^ 62 - 1 }
     requires run { engine.now.hub.txns.run ≤ number + 1 }
     requires sight { snapshot.now.sight ≡ sight_at engine.now.hub.txns.run engine.now.hub.txns.next (unended engine.now.hub.txns) }
     requires told { AreTold was.now told.now }
+    requires root { history.level ≤ 60 }
     ensures admitted { IfOk result IsRecord }
     ensures sequence { IfOk result (λ r. r.sequence ≡ number + 1) }
     ensures names { (w : World) → Stands engine.now w → NoneResolves w.machine → IfOk result (IsRecordOf w.machine number) }
+    ensures history { IfOk result (λ r. r.history ≡ history) }
     ensures tables { IfOk result (λ r. r.tables ≡ roots_by_name engine.now.hub.tables.tables (roots_in (placed_by was.now told.now))) }
 {
     let marks = engine.marks();
@@ -47,7 +50,7 @@ pub(crate) fn record_of<'a>(
         stable: marks.stable,
         snapshot: kept_of(alloc, snapshot)?,
         next_table: tables.next_number(),
-        history: no_root(),
+        history: typed(history),
         tables: roots_of(alloc, tables, was, told)?,
     })
 }

@@ -91,7 +91,7 @@ fn root_at(was: &[TreePlace], told: &[Option<TreePlace>], place: usize) -> Root
 }
 
 // The same root. That each number of its link fits its type is known of every root.
-fn typed(root: Root) -> Root
+pub(crate) fn typed(root: Root) -> Root
     ensures is { result ≡ root }
     ensures link { LinkFits result.link }
 {

@@ -2,7 +2,9 @@
 ghost use Rattle.std.specs.Prelude.{◌≡◌, []};
 
 use crate::parts::LeafPart;
+use crate::roots::no_root;
 use device_layout::Addr;
+use hist_write::HistoryPlace;
 use std::alloc::Global;
 use tree_open::TreePlace;
 
@@ -14,6 +16,8 @@ pub(crate) struct Taken {
     pub trees: Vec<Option<TreePlace>>,
     // The leaves that it wrote.
     pub parts: Vec<LeafPart>,
+    // Where the history stands; nowhere, as long as it is not written.
+    pub history: HistoryPlace,
     // Where the blocks stand that are captured, in turn: also those of a tree that is not whole.
     pub captured: Vec<Addr>,
 }
@@ -28,6 +32,10 @@ impl Taken {
         Taken {
             trees: Vec::new(alloc),
             parts: Vec::new(alloc),
+            history: HistoryPlace {
+                root: no_root(),
+                addrs: Vec::new(alloc),
+            },
             captured: Vec::new(alloc),
         }
     }

@@ -6,6 +6,7 @@ ghost use Rattle.disk_model.specs.Crash.{SameDisk};
 ghost use Rattle.stored.specs.Stored.{Stored};
 ghost use Rattle.engine_world.specs.Stands.{Stands};
 ghost use Rattle.engine_world.specs.Worlds.{World};
+ghost use Rattle.evict_step.specs.Kept.{KeepsThese};
 ghost use Rattle.ckpt_step.specs.Floors.{AreLivesOn, Follows};
 ghost use Rattle.ckpt_step.specs.Grounds.{StandsOn};
 ghost use Rattle.engine_world.specs.Systems.{checkpointed, with_fault};
@@ -22,11 +23,12 @@ use std::alloc::Global;
 use wt_code::{Refusal, StoreError};
 
 /// A checkpoint in one event: of each table the tree of the newest versions that are committed, the
-/// record, a sync, and the slot that names it. A leaf of the directory that is in no frame, or clean,
-/// so that nothing was committed to it since the last checkpoint of this engine, keeps its blocks,
-/// unread: those of the checkpoint before, or the one to which it was written since. The rows of any
-/// other are cut into images, of which one that is there already at the same place in the leaf, with
-/// the same rows, keeps its block.
+/// history of the older ones that a read can want, the record, a sync, and the slot that names it. A
+/// leaf of the directory that is in no frame, or clean, so that nothing was committed to it since the
+/// last checkpoint of this engine, keeps its blocks, unread: those of the checkpoint before, or the one
+/// to which it was written since. The rows of any other are cut into images, of which one that is there
+/// already at the same place in the leaf, with the same rows, keeps its block. The history is written
+/// anew, whole.
 ///
 /// After `Ok` it is the last completed one. Refused where the engine is down, a prepared
 /// transaction is being resolved or there were too many checkpoints; `28 no space` where a block has
@@ -38,7 +40,7 @@ use wt_code::{Refusal, StoreError};
 /// `O(leaves)`, and `O(blocks)` for a table of clean leaves alone, which keeps its tree. Of any other
 /// table `O(rows)` of each leaf that is not clean, whose rows are copied once into images: a block of
 /// before is read where it may be the same, one is written where it is not, and so is each inner page
-/// of the table.
+/// of the table. For the history `O(bytes)` of the older versions, and the costs of `gather`.
 pub fn checkpoint<D: Disk>(
     alloc: Global,
     disk: &mut D,
@@ -48,7 +50,7 @@ pub fn checkpoint<D: Disk>(
     requires run { engine.old.hub.txns.run ≤ ground.old.number + 1 }
     requires trees { length ground.old.trees.items ≤ length engine.old.hub.tables.tables }
     requires low { AreLow ground.old.trees.items }
-    ensures takes { IsTrue (D.honest disk.old) → (w : World) → Stands engine.old w → w.machine.checkpoint ≡ None → (old : Option Stored) → StandsOn (D.seen disk.old) (D.may_leave disk.old) engine.old.hub ground.old old
+    ensures takes { IsTrue (D.honest disk.old) → (w : World) → Stands engine.old w → w.machine.checkpoint ≡ None → KeepsThese w ground.old.kept → (old : Option Stored) → StandsOn (D.seen disk.old) (D.may_leave disk.old) engine.old.hub ground.old old
         → Follows old engine.old.hub ground.old w → AreLivesOn (D.seen disk.old) engine.old.hub ground.old w → Takes D.Disk old w ground.old ground.new engine.old engine.new disk.old disk.new result }
     ensures down { (fault : AFault) → engine.old.hub.fault ≡ Some fault → (result ≡ Err (Refusal.Panic fault)) × (engine.new ≡ engine.old) × (ground.new ≡ ground.old) × (disk.new ≡ disk.old) }
     ensures refusals { IfErr result IsOfCheckpoint }

@@ -8,7 +8,7 @@ ghost use Rattle.disk_model.specs.Crash.{SameDisk};
 ghost use Rattle.extent_list.specs.Space.{end_of};
 ghost use Rattle.kv_model.specs.History.{Table};
 ghost use Rattle.row_page.specs.Rows.{Row};
-ghost use Rattle.leaf_capture.specs.Capture.{ChainsFit};
+ghost use Rattle.reconcile.specs.Capture.{ChainsFit};
 ghost use Rattle.reconcile.specs.Images.{AreImages};
 ghost use Rattle.snapshot.specs.Matters.{NoneResolves, SeesCommitted};
 ghost use Rattle.stored.specs.Stored.{Stored};

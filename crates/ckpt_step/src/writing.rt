@@ -11,12 +11,16 @@ ghost use Rattle.snapshot.specs.Matters.{NoneResolves, SeesCommitted};
 ghost use Rattle.snapshot.specs.Sight.{sight_at};
 ghost use Rattle.txn_table.specs.Tabled.{unended};
 ghost use Rattle.kv_model.specs.Holds.{Member};
+ghost use Rattle.stored.specs.HistoryTree.{HistoryRecord as StoredRecord};
 ghost use Rattle.stored.specs.Stored.{Stored};
+ghost use Rattle.hist_write.specs.Writes.{AreWritable};
+ghost use Rattle.ckpt_content.specs.Checkpoints.{IsHistoryOf};
 ghost use Rattle.engine_world.specs.Stands.{Stands};
 ghost use Rattle.engine_world.specs.Worlds.{World};
-ghost use Rattle.ckpt_step.specs.Floors.{AreLivesOn, Follows};
+ghost use Rattle.ckpt_step.specs.Floors.{AreLivesOn, AreOnDevice, Follows, FollowsFrom};
+ghost use Rattle.evict_step.specs.Kept.{KeepsThese};
 ghost use Rattle.ckpt_step.specs.Grounds.{AreRoots, AreSince, AreWritten, StandsOn, number_of};
-ghost use Rattle.ckpt_step.specs.Halves.{AreOldBlocks, AreOwn, Half, IsFresh, done_at, settled_at};
+ghost use Rattle.ckpt_step.specs.Halves.{AreOldBlocks, AreOwn, Half, IsFresh, TakesAll, done_at, settled_at};
 ghost use Rattle.ckpt_step.specs.Lives.{addrs_in};
 ghost use Rattle.ckpt_step.specs.Parts.{HaveRoom, with_parts};
 ghost use Rattle.ckpt_step.specs.Rooms.{known_in};
@@ -34,10 +38,15 @@ use crate::trees::write_trees;
 use block_mgr::Blocks;
 use checkpoint_core::finish;
 use checkpoint_record::encode;
+use ckpt_content::written_histories_serve;
 use device_layout::{Addr, Slot};
 use disk_model::Disk;
 use engine::Local;
+use evict_step::Kept;
 use failure::NoMemory;
+use hist_gather::gather;
+use hist_pages::{HistoryLeaf, leaves_of};
+use hist_write::write_history;
 use snapshot::Snapshot;
 use stamp::Name;
 use std::alloc::Global;
@@ -58,7 +67,7 @@ pub(crate) fn write<D: Disk>(
     requires sight { snapshot.now.sight ≡ sight_at engine.now.hub.txns.run engine.now.hub.txns.next (unended engine.now.hub.txns) }
     requires trees { length ground.old.trees.items ≤ length engine.now.hub.tables.tables }
     requires low { AreLow ground.old.trees.items }
-    ensures wrote { IsTrue (D.honest disk.old) → (w : World) → Stands engine.now w → NoneResolves w.machine → SeesCommitted w.machine (length w.machine.history) snapshot.now.sight → (old : Option Stored)
+    ensures wrote { IsTrue (D.honest disk.old) → (w : World) → Stands engine.now w → NoneResolves w.machine → SeesCommitted w.machine (length w.machine.history) snapshot.now.sight → KeepsThese w ground.old.kept → w.machine.checkpoint ≡ None → (old : Option Stored)
         → StandsOn (D.seen disk.old) (D.may_leave disk.old) engine.now.hub ground.old old → Follows old engine.now.hub ground.old w → AreLivesOn (D.seen disk.old) engine.now.hub ground.old w
         → Wrote D.Disk old w engine.now.hub ground.old ground.new disk.old disk.new result }
     ensures number { ground.old.number ≤ ground.new.number }
@@ -79,7 +88,7 @@ pub(crate) fn write<D: Disk>(
     let mut taken = Taken::new(alloc);
     match write_blocks(alloc, disk, ground, engine, snapshot, &mut taken) {
         Ok(addr) => {
-            settle(ground, taken.trees, taken.parts, addr, floor_of(snapshot));
+            settle(ground, taken, addr, floor_of(snapshot));
             Ok(())
         }
         Err(error) => {
@@ -116,8 +125,8 @@ fn begin(blocks: &mut Blocks)
     }
 }
 
-// Writes and captures the trees, which `taken` gets, and then writes and installs the record, whose
-// address is the answer.
+// Writes and captures the trees and the history, which `taken` gets, and then writes and installs the
+// record, whose address is the answer.
 fn write_blocks<D: Disk>(
     alloc: Global,
     disk: &mut D,
@@ -135,10 +144,10 @@ fn write_blocks<D: Disk>(
     requires unwritten { taken.old.parts.items ≡ [] }
     requires unlisted { taken.old.captured.items ≡ [] }
     requires ready { IsTrue (D.honest disk.old) → end_of ground.old.place.blocks.space ≤ length (D.seen disk.old) }
-    ensures puts { IsTrue (D.honest disk.old) → (w : World) → Stands engine.now w → NoneResolves w.machine → SeesCommitted w.machine (length w.machine.history) snapshot.now.sight → (old : Option Stored)
+    ensures puts { IsTrue (D.honest disk.old) → (w : World) → Stands engine.now w → NoneResolves w.machine → SeesCommitted w.machine (length w.machine.history) snapshot.now.sight → KeepsThese w ground.old.kept → w.machine.checkpoint ≡ None → (old : Option Stored)
         → Half (D.seen disk.old) (D.may_leave disk.old) ground.old.place.blocks old ground.old.lives [] [] [] → AreRoots engine.now.hub.tables.tables ground.old.lives engine.now.hub.dir.leaves (known_in ground.old.parts) ground.old.trees.items old → AreWritten engine.now.hub.tables.tables ground.old.lives engine.now.hub.dir (known_in ground.old.parts) ground.old.trees.items → AreSince old ground.old.lives engine.now.hub.dir (known_in ground.old.parts) → ground.old.number ≡ number_of old
         → Follows old engine.now.hub ground.old w → AreLivesOn (D.seen disk.old) engine.now.hub ground.old w
-        → Puts D.Disk old ground.old.lives w engine.now.hub.tables.tables engine.now.hub.dir.leaves (known_in ground.old.parts) ground.old.place.blocks ground.new.place.blocks (placed_by ground.old.trees.items taken.new.trees.items) taken.new.parts.items taken.new.captured.items disk.old disk.new result }
+        → Puts D.Disk old ground.old.lives w engine.now.hub.tables.tables engine.now.hub.dir.leaves (known_in ground.old.parts) ground.old.place.blocks ground.new.place.blocks (placed_by ground.old.trees.items taken.new.trees.items) taken.new.history.addrs.items taken.new.parts.items taken.new.captured.items disk.old disk.new result }
     ensures count { OnOk result (length taken.new.trees.items ≡ length engine.now.hub.tables.tables) }
     ensures told { OnOk result (AreTold ground.old.trees.items taken.new.trees.items) }
     ensures room { OnOk result (length taken.new.trees.items ≤ vec_capacity ground.new.trees) }
@@ -148,6 +157,7 @@ fn write_blocks<D: Disk>(
     ensures number { ground.new.number ≡ ground.old.number }
     ensures trees { ground.new.trees.items ≡ ground.old.trees.items }
     ensures parts { (leaf : ℕ) → known_in ground.new.parts leaf ≡ known_in ground.old.parts leaf }
+    ensures stood { ground.new.history.items ≡ ground.old.history.items }
     ensures lives { ground.new.lives ≡ ground.old.lives }
     ensures floor { ground.new.floor ≡ ground.old.floor }
     ensures history { ground.new.kept ≡ ground.old.kept }
@@ -159,9 +169,10 @@ fn write_blocks<D: Disk>(
         trees: &ground.trees,
         parts: &ground.parts,
         lives: &ground.lives,
+        kept: &ground.kept,
         floor: ground.floor,
     };
-    match write_trees(alloc, disk, blocks, was, engine, snapshot, taken) {
+    match write_body(alloc, disk, blocks, was, engine, snapshot, taken) {
         Ok(()) => {}
         Err(error) => return Err(error),
     }
@@ -171,20 +182,66 @@ fn write_blocks<D: Disk>(
     let Ok(()) = reserve_parts(&mut ground.parts, &taken.parts) else {
         return Err(StoreError::NoMemory);
     };
-    let Ok(image) = image_of(
-        alloc,
-        engine,
-        snapshot,
-        ground.number,
-        &ground.trees,
-        &taken.trees,
-    ) else {
+    let Ok(image) = image_of(alloc, engine, snapshot, ground.number, &ground.trees, taken) else {
         return Err(StoreError::NoMemory);
     };
     match finish(disk, blocks, ground.number + 1, image) {
         Ok(addr) => Ok(addr),
         Err(error) => Err(error),
     }
+}
+
+// Writes and captures the trees and then the history, which `taken` gets.
+fn write_body<D: Disk>(
+    alloc: Global,
+    disk: &mut D,
+    blocks: &mut Blocks,
+    was: Before<'_>,
+    engine: &Local,
+    snapshot: &Snapshot,
+    taken: &mut Taken,
+) -> Result<(), StoreError>
+    requires held { blocks.old.is_held ≡ true }
+    requires none { taken.old.trees.items ≡ [] }
+    requires unwritten { taken.old.parts.items ≡ [] }
+    requires unlisted { taken.old.captured.items ≡ [] }
+    requires low { AreLow was.trees.now }
+    requires ready { IsTrue (D.honest disk.old) → end_of blocks.old.space ≤ length (D.seen disk.old) }
+    ensures takes { IsTrue (D.honest disk.old) → (w : World) → Stands engine.now w → NoneResolves w.machine → SeesCommitted w.machine (length w.machine.history) snapshot.now.sight → KeepsThese w was.entry.kept.now → w.machine.checkpoint ≡ None → (old : Option Stored)
+        → Half (D.seen disk.old) (D.may_leave disk.old) blocks.old old was.entry.lives.now [] [] [] → AreRoots engine.now.hub.tables.tables was.entry.lives.now engine.now.hub.dir.leaves (known_in was.entry.parts.now) was.entry.trees.now old → AreWritten engine.now.hub.tables.tables was.entry.lives.now engine.now.hub.dir (known_in was.entry.parts.now) was.entry.trees.now → AreSince old was.entry.lives.now engine.now.hub.dir (known_in was.entry.parts.now)
+        → FollowsFrom old engine.now.hub.tables.tables was.entry.lives.now engine.now.hub.dir.leaves (known_in was.entry.parts.now) was.entry.trees.now was.entry.floor w → AreOnDevice (D.seen disk.old) was.entry.lives.now engine.now.hub.dir.leaves w.shelf
+        → TakesAll D.Disk old was.entry.lives.now w engine.now.hub.tables.tables engine.now.hub.dir.leaves (known_in was.entry.parts.now) blocks.old blocks.new (placed_by was.entry.trees.now taken.new.trees.items) taken.new.parts.items taken.new.captured.items disk.old disk.new taken.new.history.root taken.new.history.addrs.items result }
+    ensures root { OnOk result (taken.new.history.root.level ≤ 60) }
+    ensures count { OnOk result (length taken.new.trees.items ≡ length engine.now.hub.tables.tables) }
+    ensures told { OnOk result (AreTold was.entry.trees.now taken.new.trees.items) }
+    ensures ready { IsTrue (D.honest disk.old) → OnOk result (end_of blocks.new.space ≤ length (D.seen disk.new)) }
+    ensures held { blocks.new.is_held ≡ true }
+    ensures fault { IfErr result (λ e. IsOfDisk e → Rose (D.faults disk.old) (D.faults disk.new)) }
+    ensures disk { SameDisk D.Disk disk.old disk.new }
+{
+    match write_trees(alloc, disk, blocks, was, engine, snapshot, taken) {
+        Ok(()) => {}
+        Err(error) => return Err(error),
+    }
+    let Ok(leaves) = older_of(alloc, engine, was.kept) else {
+        return Err(StoreError::NoMemory);
+    };
+    match write_history(alloc, disk, blocks, leaves, &mut taken.captured) {
+        Ok(place) => {
+            taken.history = place;
+            Ok(())
+        }
+        Err(error) => Err(error),
+    }
+}
+
+// The older versions that a read can want, as the leaves of a history. The error is want of memory.
+fn older_of(alloc: Global, engine: &Local, kept: &Kept) -> Result<Vec<HistoryLeaf>, NoMemory>
+    ensures { IfOk result (λ leaves. (records : List StoredRecord) × AreWritable leaves.items records × ((w : World) → Stands engine.now w → KeepsThese w kept.now → w.machine.checkpoint ≡ None → NoneResolves w.machine → IsHistoryOf w.machine records)) }
+{
+    let older = gather(alloc, engine, kept)?;
+    written_histories_serve();
+    leaves_of(alloc, &older)
 }
 
 // Takes room for a tree of each table of the engine.
@@ -208,49 +265,53 @@ fn reserve_parts(parts: &mut Parts, written: &[LeafPart]) -> Result<(), NoMemory
     Ok(())
 }
 
-// The image of the record of a checkpoint with these trees.
+// The image of the record of a checkpoint with these trees and this history.
 fn image_of(
     alloc: Global,
     engine: &Local,
     snapshot: &Snapshot,
     number: u64,
     was: &[TreePlace],
-    told: &[Option<TreePlace>],
+    taken: &Taken,
 ) -> Result<Vec<u8>, NoMemory>
     requires number { number < 2 ^ 62 - 1 }
     requires run { engine.now.hub.txns.run ≤ number + 1 }
     requires sight { snapshot.now.sight ≡ sight_at engine.now.hub.txns.run engine.now.hub.txns.next (unended engine.now.hub.txns) }
-    requires told { AreTold was.now told.now }
-    ensures image { (w : World) → Stands engine.now w → NoneResolves w.machine → IfOk result (λ v. IsImageOf w.machine number engine.now.hub.tables.tables (placed_by was.now told.now) v.items) }
+    requires told { AreTold was.now taken.now.trees.items }
+    requires root { taken.now.history.root.level ≤ 60 }
+    ensures image { (w : World) → Stands engine.now w → NoneResolves w.machine → IfOk result (λ v. IsImageOf w.machine number engine.now.hub.tables.tables (placed_by was.now taken.now.trees.items) taken.now.history.root v.items) }
     ensures some { IfOk result (λ v. 1 ≤ length v.items) }
     ensures most { IfOk result (λ v. length v.items ≤ 2 ^ 18) }
 {
-    let record = record_of(alloc, engine, snapshot, number, was, told)?;
+    let record = record_of(
+        alloc,
+        engine,
+        snapshot,
+        number,
+        was,
+        &taken.trees,
+        taken.history.root,
+    )?;
     encode(alloc, &record)
 }
 
-// The ground is that of the checkpoint with these trees, leaves and floor, whose record stands at the
-// address. Nothing was written since.
-fn settle(
-    ground: &mut Ground,
-    told: Vec<Option<TreePlace>>,
-    written: Vec<LeafPart>,
-    addr: Addr,
-    floor: Name,
-)
+// The ground is that of the checkpoint that has what was taken, whose record stands at the address, and
+// of this floor. Nothing was written since.
+fn settle(ground: &mut Ground, taken: Taken, addr: Addr, floor: Name)
     requires number { ground.old.number < 2 ^ 62 - 1 }
-    requires kept { AreKept ground.old.trees.items told.items }
-    requires few { length ground.old.trees.items ≤ length told.items }
-    requires room { length told.items ≤ vec_capacity ground.old.trees }
-    requires parts_room { HaveRoom ground.old.parts written.items }
-    ensures parts { (leaf : ℕ) → known_in ground.new.parts leaf ≡ with_parts (known_in ground.old.parts) written.items leaf }
+    requires kept { AreKept ground.old.trees.items taken.trees.items }
+    requires few { length ground.old.trees.items ≤ length taken.trees.items }
+    requires room { length taken.trees.items ≤ vec_capacity ground.old.trees }
+    requires parts_room { HaveRoom ground.old.parts taken.parts.items }
+    ensures parts { (leaf : ℕ) → known_in ground.new.parts leaf ≡ with_parts (known_in ground.old.parts) taken.parts.items leaf }
     ensures number { ground.new.number ≡ ground.old.number + 1 }
-    ensures trees { ground.new.trees.items ≡ placed_by ground.old.trees.items told.items }
+    ensures trees { ground.new.trees.items ≡ placed_by ground.old.trees.items taken.trees.items }
+    ensures stand { ground.new.history.items ≡ taken.history.addrs.items }
     ensures floor { ground.new.floor ≡ floor }
     ensures slot { ground.new.place.slot ≡ Some (slot_at (ground.old.number + 1) addr) }
     ensures lives { ground.new.lives ≡ [] }
     ensures history { ground.new.kept ≡ ground.old.kept }
-    ensures cells { (old : Option Stored) (captured : List AnAddr) (a : AnAddr) → AreOldBlocks old ground.old.lives (addrs_of ground.old.trees.items ++ addrs_in ground.old.lives) → ((x : AnAddr) → Member x (addrs_of (kept_by ground.old.trees.items told.items)) → Member x captured) → AreOwn old ground.old.lives captured → IsFresh old ground.old.lives captured a → ((u : ℕ) → cell_at ground.old.place.blocks.cells u ≡ done_at old ground.old.lives captured a u) → (u : ℕ) → cell_at ground.new.place.blocks.cells u ≡ settled_at captured a u }
+    ensures cells { (old : Option Stored) (captured : List AnAddr) (a : AnAddr) → AreOldBlocks old ground.old.lives (addrs_of ground.old.trees.items ++ (ground.old.history.items ++ addrs_in ground.old.lives)) → ((x : AnAddr) → Member x (addrs_of (kept_by ground.old.trees.items taken.trees.items)) → Member x captured) → AreOwn old ground.old.lives captured → IsFresh old ground.old.lives captured a → ((u : ℕ) → cell_at ground.old.place.blocks.cells u ≡ done_at old ground.old.lives captured a u) → (u : ℕ) → cell_at ground.new.place.blocks.cells u ≡ settled_at captured a u }
     ensures end { end_of ground.new.place.blocks.space ≡ end_of ground.old.place.blocks.space }
     ensures units { AreUnits ground.old.place.blocks.cells ground.old.place.blocks.space → AreUnits ground.new.place.blocks.cells ground.new.place.blocks.space }
     ensures held { ground.new.place.blocks.is_held ≡ ground.old.place.blocks.is_held }
@@ -258,11 +319,13 @@ fn settle(
     let_go(
         &mut ground.place.blocks,
         &ground.trees,
-        &told,
+        &taken.trees,
+        &ground.history,
         &mut ground.lives,
     );
-    put_trees(&mut ground.trees, told);
-    put_parts(&mut ground.parts, written);
+    put_trees(&mut ground.trees, taken.trees);
+    put_parts(&mut ground.parts, taken.parts);
+    ground.history = taken.history.addrs;
     ground.floor = floor;
     ground.number += 1;
     ground.place.slot = Some(Slot::new(ground.number, addr));

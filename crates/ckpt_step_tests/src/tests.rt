@@ -6,11 +6,13 @@ ghost use Rattle.ckpt_step.specs.Trees.{AreLow};
 use block_sum::sum;
 use catalog::Catalog;
 use ckpt_step::{Evicted, Ground, Lives, Parts, checkpoint, evict};
+use device_layout::Addr;
 use disk_model::{Call as DiskCall, Look, MemDisk};
 use engine::{Called, Local, Stays};
+use hist_open::History;
 use item::{Change, Format, Formats, Item};
 use plain_disk::PlainDisk;
-use recover_open::{Kept, Recovered, recover};
+use recover_open::{Kept, Recovered, SurveyedWhole, recover, survey_whole};
 use row_page::CellChange;
 use stamp::Name;
 use std::alloc::Global;
@@ -75,6 +77,7 @@ fn ground_on(alloc: Global, found: Recovered) -> Ground {
         trees: Vec::new(alloc),
         parts: Parts::new(alloc),
         lives: Lives::new(alloc),
+        history: Vec::new(alloc),
         kept: ckpt_step::Kept::new(alloc),
         floor: Name { run: 0, id: 0 },
     }
@@ -838,4 +841,78 @@ fn a_tree_without_a_record_is_given_back(rt: HostRuntime) {
     let alloc = rt.alloc();
     let mut bench = new_bench(&rt, alloc, 86_016, &[], &[b"a"]);
     check_given_back(&rt, alloc, &mut bench);
+}
+
+// A transaction that gives the key `k` of the table `a` a value, with a commit stamp.
+fn put_stamped(rt: &impl Abort, alloc: Global, bench: &mut Bench, (value, stamp): (u8, u64)) {
+    let engine = &mut bench.engine;
+    ask(rt, alloc, engine, 0, SessionCall::Begin(None));
+    ask(
+        rt,
+        alloc,
+        engine,
+        0,
+        put_call(rt, alloc, (b"a", b"k", &[value])),
+    );
+    let commit = SessionCall::Commit {
+        commit: Some(stamp),
+        durable: None,
+    };
+    ask(rt, alloc, engine, 0, commit);
+}
+
+// The history that the device has.
+fn history_on(rt: &impl Abort, alloc: Global, disk: &mut PlainDisk) -> History {
+    let SurveyedWhole { place: _, whole } = survey_whole(alloc, disk).expect(rt, "it opens");
+    whole.expect(rt, "a checkpoint").history
+}
+
+// It has these values of the key, with their commit stamps, and stands where the ground tells.
+fn check_history(rt: &impl Abort, alloc: Global, bench: &mut Bench, wanted: &[(u8, u64)]) {
+    let history = history_on(rt, alloc, &mut bench.disk);
+    assert_eq!(rt; history.records.len(), wanted.len());
+    for (one, (value, stamp)) in history.records.iter().zip(wanted) {
+        assert_eq!(rt; byte_of(&one.version.change), Some(*value));
+        assert_eq!(rt; one.version.window.commit, *stamp);
+    }
+    assert!(rt; history.addrs.as_slice() == bench.ground.history.as_slice());
+}
+
+fn take_older(rt: &impl Abort, alloc: Global, bench: &mut Bench, wanted: &[(u8, u64)]) {
+    take_whole(rt, alloc, bench);
+    check_history(rt, alloc, bench, wanted);
+}
+
+// Where the block of the history stands.
+fn history_block(rt: &impl Abort, bench: &Bench) -> Addr {
+    *bench.ground.history.first().expect(rt, "a history")
+}
+
+// Takes a checkpoint that writes the same history at another place, where the one before is free again.
+fn take_moved(rt: &impl Abort, alloc: Global, bench: &mut Bench, wanted: &[(u8, u64)]) {
+    let was = history_block(rt, bench);
+    take_older(rt, alloc, bench, wanted);
+    let blocks = &bench.ground.place.blocks;
+    assert!(rt; !blocks.is_live(was) && !blocks.is_last(was));
+}
+
+// Of a leaf in its frame, of one that was evicted since the last checkpoint, and of one that it has.
+fn check_older(rt: &impl Abort, alloc: Global, bench: &mut Bench) {
+    put_stamped(rt, alloc, bench, (b'1', 10));
+    take_older(rt, alloc, bench, &[]);
+    put_stamped(rt, alloc, bench, (b'2', 20));
+    take_older(rt, alloc, bench, &[(b'1', 10)]);
+    put_stamped(rt, alloc, bench, (b'3', 30));
+    check_let_out(rt, alloc, bench, Evicted::Done);
+    take_moved(rt, alloc, bench, &[(b'1', 10), (b'2', 20)]);
+    take_moved(rt, alloc, bench, &[(b'1', 10), (b'2', 20)]);
+}
+
+// What a read at an earlier stamp can want of a key stands in the history, below the newest version in
+// the row.
+#[test]
+fn older_versions_that_a_read_can_want_stand_in_the_history(rt: HostRuntime) {
+    let alloc = rt.alloc();
+    let mut bench = new_table(&rt, alloc);
+    check_older(&rt, alloc, &mut bench);
 }

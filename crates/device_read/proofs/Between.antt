@@ -153,7 +153,7 @@ page_of_key key es pages i page are under at = in_page key es pages i page are a
 
 -- ---- the keys of a page
 
-all_above : (key : List ℕ) (es : List Entry) → Climbs es → IsTrue (ends_below (first_key es) key) → AllByRecursion (λ (e : Entry). is_below key e.key ≡ true) es
+pub all_above : (key : List ℕ) (es : List Entry) → Climbs es → IsTrue (ends_below (first_key es) key) → AllByRecursion (λ (e : Entry). is_below key e.key ≡ true) es
 all_above key [] climbs ends = tt
 all_above key (f ∷ []) climbs ends = (ends, tt)
 all_above key (f ∷ g ∷ es) climbs ends = (ends, all_above key (g ∷ es) climbs.1 (below_trans key f.key g.key ends climbs.0))
@@ -198,3 +198,11 @@ key_under es pages i page r climbs are at there = record {
   upto = inr (subst (λ (n : ℕ). AllByRecursion (λ (e : Entry). is_below r.0 e.key ≡ false) (take n es)) (sym (plus_one i)) (keys_upto es pages i page r climbs are at there));
   behind = subst (λ (n : ℕ). AllByRecursion (λ (e : Entry). is_below r.0 e.key ≡ true) (drop n es)) (sym (plus_one i)) (keys_behind es pages i page r climbs are at there);
 }
+
+-- each page ascends
+pub page_ascends : (es : List Entry) (pages : List (List Row)) (i : ℕ) (page : List Row) → AreBetween es pages → slice_get pages i ≡ Some page → Ascends None page
+page_ascends [] [] i page are at = absurd cc
+page_ascends [] (p ∷ pages) i page are at = absurd are
+page_ascends (e ∷ es) [] i page are at = absurd are
+page_ascends (e ∷ es) (p ∷ pages) zero page are at = let same : p ≡ page = cc in subst (λ (l : List Row). Ascends None l) same are.0
+page_ascends (e ∷ es) (p ∷ pages) (suc i) page are at = page_ascends es pages i page are.2 at

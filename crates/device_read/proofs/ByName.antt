@@ -11,7 +11,7 @@ use Rattle.std.proofs.lemmas.Map.Lookups.{exact_bytes}
 use Rattle.kv_model.specs.History.{Table, named}
 use Rattle.row_page.specs.Rows.{is_below}
 use Rattle.row_page.proofs.Ascending.{above_differs, below_differs, below_trans}
-use Rattle.rows_shown.proofs.Keyed.{key_self}
+use Rattle.reconcile.proofs.Keyed.{key_self}
 use Rattle.inner_page.proofs.Halving.{Rises, holds_behind, not_upto}
 use Rattle.stored.specs.Records.{TableRoot, TablesClimb}
 use Rattle.stored.specs.Stored.{tables_of}

@@ -11,7 +11,7 @@ use Rattle.kv_model.specs.History.{put_of}
 use Rattle.row_page.specs.Changes.{PageChange, change_in}
 use Rattle.row_page.specs.Rows.{Row, is_below, Ascends}
 use Rattle.row_page.proofs.Ascending.{all_above, below_differs}
-use Rattle.rows_shown.proofs.Keyed.{key_self, same_key}
+use Rattle.reconcile.proofs.Keyed.{key_self, same_key}
 use Rattle.stored.specs.Tree.{join}
 use Rattle.device_read.specs.Rows.{KeyValue, InOrder, put_as, put_row, put_rows, rows_in}
 use Rattle.device_read.specs.Steps.{value_shown}

@@ -10,3 +10,11 @@ pub mod Readings
 pub mod LeafPlaces
 pub mod Numbers
 pub mod Spoilt
+pub mod Names
+pub mod NewestRecords
+pub mod Merged
+pub mod Parts
+pub mod Rising
+pub mod Pages
+pub mod Cells
+pub mod Fits

@@ -9,6 +9,9 @@ use Rattle.le_codec.specs.Images.{block_of}
 use Rattle.device_layout.specs.declared.slot.Slot.{Slot}
 use Rattle.kv_model.specs.Content.{Content, nothing}
 use Rattle.kv_model.specs.History.{Table}
+use Rattle.kv_model.specs.Regular.{IsRegular}
+use Rattle.stamp.specs.declared.version.Version.{Version}
+use Rattle.row_page.specs.Changes.{PageChange}
 use Rattle.row_page.specs.Rows.{Row}
 use Rattle.leaf_rows.specs.declared.marks.Marks.{Marks}
 use Rattle.stored.specs.TableTree.{Entry}
@@ -16,12 +19,15 @@ use Rattle.stored.specs.Records.{Record, record_image}
 use Rattle.stored.specs.Stored.{IsBlank, IsOn, Reads, Stored}
 use Rattle.device_leaf.specs.declared.place.Place.{Place}
 use Rattle.device_leaf.proofs.Opens.{no_blank}
-use Rattle.recover_open.specs.declared.surveying.Above.{Above}
-use Rattle.recover_open.specs.Surveys.{IsOfDisk, SurveyRefused, Surveys}
-use Rattle.recover_open.proofs.Devices.{damage_no_content, same_record}
+use Rattle.tree_open.specs.Damage.{Refused}
+use Rattle.recover_open.specs.declared.wholes.Whole.{Whole}
+use Rattle.recover_open.specs.Surveys.{IsOfDisk}
+use Rattle.recover_open.specs.Wholes.{IsWholeDamage, SurveysWhole}
+use Rattle.recover_open.proofs.Devices.{same_record, whole_damage_no_content}
 use Rattle.leaf_frame.specs.Leaf.{HeldLeaf}
-use Rattle.device_read.specs.Leaves.{HasLeaf, HasValue}
-use Rattle.device_read.specs.Readers.{Held, HasPages, IsReaderOf, entries_at, tables_in}
+use Rattle.device_read.specs.Leaves.{HasPage, HasValue}
+use Rattle.device_read.specs.Newest.{record_at}
+use Rattle.device_read.specs.Readers.{Held, HasPages, IsReaderOf, entries_at, number_at, tables_in}
 use Rattle.device_read.specs.Refusals.{HasNumbers, OpenRefused}
 use Rattle.device_read.specs.Rows.{value_in}
 use Rattle.device_read.specs.Spoilt.{IsSpoiltFrom}
@@ -31,51 +37,50 @@ use Rattle.device_read.proofs.Numbers.{numbers_had, numbers_refused}
 use Rattle.device_read.proofs.Readings.{value_is}
 
 pub itself : (bytes : List ℕ) (h : Held) → IsReaderOf bytes h → IsSpoiltFrom bytes bytes
-itself bytes h reader = record { held = h; opens = reader; blank = λ none. none; above = λ place a surveyed. (place, surveyed); leaves = λ k place i leaf has there. there }
+itself bytes h reader = record { held = h; opens = reader; blank = λ none. none; above = λ place w surveyed. (place, surveyed); leaves = λ k place i leaf has there. there }
 
 pub reader_whole : (whole bytes : List ℕ) (h : Held) → IsSpoiltFrom whole bytes → IsReaderOf bytes h → IsReaderOf whole h
 reader_whole whole bytes h spoilt (inl (blank, none)) = inl (spoilt.blank blank, none)
-reader_whole whole bytes h spoilt (inr (place, a, surveyed, same)) = let there = spoilt.above place a surveyed in inr (there.0, a, there.1, same)
+reader_whole whole bytes h spoilt (inr (place, w, surveyed, same)) = let there = spoilt.above place w surveyed in inr (there.0, w, there.1, same)
 
 -- ---- what a leaf gives
 
-value_moves : (whole bytes : List ℕ) (es : List Entry) (key : List ℕ) (m : Marks) (ids : List ℕ) (v : Option (List ℕ)) → ((i : ℕ) (leaf : HeldLeaf) → IsLeafAt bytes es i m ids leaf → IsLeafAt whole es i m ids leaf) → IsValueOf bytes es key m ids v → IsValueOf whole es key m ids v
-value_moves whole bytes [] key m ids v more is = is
-value_moves whole bytes (e ∷ es) key m ids v more (i, leaf, under, at, is) = (i, leaf, under, more i leaf at, is)
+value_moves : (whole bytes : List ℕ) (es : List Entry) (key : List ℕ) (m : Marks) (ids : List ℕ) (newest : Option (Version PageChange)) (v : Option (List ℕ)) → ((i : ℕ) (leaf : HeldLeaf) → IsLeafAt bytes es i m ids leaf → IsLeafAt whole es i m ids leaf) → IsValueOf bytes es key m ids newest v → IsValueOf whole es key m ids newest v
+value_moves whole bytes [] key m ids newest v more is = is
+value_moves whole bytes (e ∷ es) key m ids newest v more (i, leaf, under, at, is) = (i, leaf, under, more i leaf at, is)
 
 -- the value of a key whose leaf is there is that of the whole device
-pub value_whole : (whole bytes : List ℕ) (content : Content) (h : Held) (place : ℕ) (t : Table) (key : List ℕ) (v : Option (List ℕ)) → IsSpoiltFrom whole bytes → IsReaderOf bytes h → Reads whole content → slice_get (tables_in h) place ≡ Some t → HasValue bytes h place key v → v ≡ value_in content t.number key
-value_whole whole bytes content h place t key v spoilt reader reads at has =
-    value_is whole content h place t key v (reader_whole whole bytes h spoilt reader) reads at
-    (value_moves whole bytes (entries_at h place) key h.marks h.ids v (λ i leaf there. spoilt.leaves h place i leaf reader there) has)
+pub value_whole : (whole bytes : List ℕ) (content : Content) (h : Held) (place : ℕ) (t : Table) (key : List ℕ) (v : Option (List ℕ)) → IsRegular content → IsSpoiltFrom whole bytes → IsReaderOf bytes h → Reads whole content → slice_get (tables_in h) place ≡ Some t → HasValue bytes h place key v → v ≡ value_in content t.number key
+value_whole whole bytes content h place t key v regular spoilt reader reads at has =
+    value_is whole content h place t key v regular (reader_whole whole bytes h spoilt reader) reads at
+    (value_moves whole bytes (entries_at h place) key h.marks h.ids (record_at (number_at h place) key h.newest) v (λ i leaf there. spoilt.leaves h place i leaf reader there) has)
 
--- so is its page
-pub page_whole : (whole bytes : List ℕ) (h : Held) (place : ℕ) (pages : List (List Row)) (i : ℕ) (leaf : HeldLeaf) → IsSpoiltFrom whole bytes → IsReaderOf bytes h → HasPages whole h place pages → HasLeaf bytes h place i leaf → slice_get pages i ≡ Some leaf.page
-page_whole whole bytes h place pages i leaf spoilt reader has there = held_page_at whole h place pages i leaf has (spoilt.leaves h place i leaf reader there)
+-- the page of a leaf that is there is that of the whole device
+pub page_whole : (whole bytes : List ℕ) (h : Held) (place : ℕ) (pages : List (List Row)) (i : ℕ) (page : List Row) → IsSpoiltFrom whole bytes → IsReaderOf bytes h → HasPages whole h place pages → HasPage bytes h place i page → slice_get pages i ≡ Some page
+page_whole whole bytes h place pages i page spoilt reader has (leaf, there, is) = held_page_at whole h place pages i page has (leaf, spoilt.leaves h place i leaf reader there, is)
 
 -- ---- openings
 
 -- a survey is refused on no blank device
-pub blank_sole : (fault known : Type 0) (bytes : List ℕ) (r : Refusal) → known → IsBlank bytes → SurveyRefused fault known bytes r → IsOfDisk r
+pub blank_sole : (fault known : Type 0) (bytes : List ℕ) (r : Refusal) → known → IsBlank bytes → Refused fault known (IsWholeDamage bytes) r → IsOfDisk r
 blank_sole fault known bytes r k blank (inl (is, failed)) = inl is
 blank_sole fault known bytes r k blank (inr (inl is)) = inr is
-blank_sole fault known bytes r k blank (inr (inr (inl (is, wide, shut)))) = absurd (shut k blank)
-blank_sole fault known bytes r k blank (inr (inr (inr (at, want, found, is, why)))) = absurd (damage_no_content bytes at want found nothing (why k) (inl (blank, refl)))
+blank_sole fault known bytes r k blank (inr (inr (at, want, found, is, why))) = absurd (whole_damage_no_content bytes at want found nothing (why k) (inl (blank, refl)))
 
-pub survey_sole : (fault known : Type 0) (bytes : List ℕ) (r : Refusal) → known → CanOpen bytes → SurveyRefused fault known bytes r → ((place : Place) (a : Above) → Surveys bytes place a → IsOfDisk r) → RefusesSurveyed bytes r
+pub survey_sole : (fault known : Type 0) (bytes : List ℕ) (r : Refusal) → known → CanOpen bytes → Refused fault known (IsWholeDamage bytes) r → ((place : Place) (w : Whole) → SurveysWhole bytes place w → IsOfDisk r) → RefusesSurveyed bytes r
 survey_sole fault known bytes r k (h, inl (blank, none)) why sole = inl (blank_sole fault known bytes r k blank why)
-survey_sole fault known bytes r k (h, inr (place, a, surveyed, same)) why sole = inl (sole place a surveyed)
+survey_sole fault known bytes r k (h, inr (place, w, surveyed, same)) why sole = inl (sole place w surveyed)
 
 one_slot : (x y : Slot) → Some x ≡ Some y → x ≡ y
 one_slot x y same = cc
 
 -- one device has one record
-record_one : (bytes : List ℕ) (place other : Place) (a b : Above) → Surveys bytes place a → Surveys bytes other b → a.record ≡ b.record
+record_one : (bytes : List ℕ) (place other : Place) (a b : Whole) → SurveysWhole bytes place a → SurveysWhole bytes other b → a.record ≡ b.record
 record_one bytes place other a b one two =
     let slots : one.slot ≡ two.slot = one_slot one.slot two.slot (chooses_one bytes (Some one.slot) (Some two.slot) one.names.chosen.chooses two.names.chosen.chooses) in
     same_record (range bytes one.slot.offset one.slot.size) a.record b.record one.names.is_record two.names.is_record one.names.is (subst (λ (s : Slot). range bytes s.offset s.size ≡ block_of (record_image b.record)) (sym slots) two.names.is)
 
-pub numbers_one : (bytes : List ℕ) (place : Place) (a : Above) → Surveys bytes place a → HasNumbers a.record → HasNumbersAbove bytes
+pub numbers_one : (bytes : List ℕ) (place : Place) (a : Whole) → SurveysWhole bytes place a → HasNumbers a.record → HasNumbersAbove bytes
 numbers_one bytes place a surveyed has other b also = subst (λ (r : Record). HasNumbers r) (record_one bytes place other a b surveyed also) has
 
 pub numbers_none : (bytes : List ℕ) → IsBlank bytes → HasNumbersAbove bytes

@@ -10,7 +10,7 @@ use Rattle.kv_model.proofs.Finishing.{tables-base}
 use Rattle.kv_model.proofs.Sorting.{descending-member, member-descending}
 use Rattle.row_page.specs.Rows.{is_below}
 use Rattle.row_page.proofs.Ascending.{below_self, below_trans}
-use Rattle.rows_shown.proofs.Keyed.{key_self, same_key}
+use Rattle.reconcile.proofs.Keyed.{key_self, same_key}
 use Rattle.stored.specs.Records.{TableRoot, TablesClimb}
 use Rattle.stored.specs.Stored.{tables_of}
 use Rattle.catalog.specs.Known.{NamesAscend}

@@ -1,5 +1,5 @@
 -- What a device that reads as a content has for its readers.
-use Rattle.std.specs.Prelude.{◌≡◌, ℕ, List, length, Some, reverse, slice_get}
+use Rattle.std.specs.Prelude.{◌≡◌, ℕ, List, length, Option, Some, reverse, slice_get}
 use Rattle.kv_model.specs.Content.{Content}
 use Rattle.kv_model.specs.Holds.{Member}
 use Rattle.kv_model.specs.History.{Table}
@@ -8,9 +8,9 @@ use Rattle.row_page.specs.Rows.{Row}
 use Rattle.inner_page.specs.Children.{IsUnderKey}
 use Rattle.stored.specs.Stored.{Reads}
 use Rattle.device_read.specs.Readers.{Held, IsReaderOf, HasPages, entries_at, tables_in, leaf_count}
-use Rattle.device_read.specs.Rows.{AreAllRows, HasTables, rows_in}
+use Rattle.device_read.specs.Rows.{AreAllRows, HasTables, rows_in, value_in}
 use Rattle.device_read.specs.Refusals.{LeafIsAtFault}
-use Rattle.device_read.specs.Leaves.{HasNoLeaf}
+use Rattle.device_read.specs.Leaves.{HasNoLeaf, HasValue}
 use Rattle.device_read.specs.Spoilt.{IsSpoiltFrom}
 
 -- its tables are those of the machine that an opening makes
@@ -29,6 +29,11 @@ pub record AreWholePages (bytes : List ℕ) (content : Content) (h : Held) (plac
 abbrev pub ReadersHavePages : Type 0
 ReadersHavePages = (bytes : List ℕ) (content : Content) (h : Held) (place : ℕ) (t : Table) → IsReaderOf bytes h → Reads bytes content → slice_get (tables_in h) place ≡ Some t
     → (pages : List (List Row)) × AreWholePages bytes content h place t.number pages
+
+-- the value of a key whose leaf is there is that of the machine that an opening makes of the whole device
+abbrev pub ReadersHaveValues : Type 0
+ReadersHaveValues = (whole bytes : List ℕ) (content : Content) (h : Held) (place : ℕ) (t : Table) (key : List ℕ) (v : Option (List ℕ)) → IsSpoiltFrom whole bytes → IsReaderOf bytes h → Reads whole content → slice_get (tables_in h) place ≡ Some t → HasValue bytes h place key v
+    → v ≡ value_in content t.number key
 
 -- a device that reads has no such damage
 abbrev pub FaultyLeavesDoNotRead : Type 0

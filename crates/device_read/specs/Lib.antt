@@ -6,3 +6,6 @@ pub mod Steps
 pub mod Lookups
 pub mod Leaves
 pub mod Spoilt
+pub mod Newest
+pub mod Merging
+pub mod Lent

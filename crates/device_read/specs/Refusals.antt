@@ -7,15 +7,16 @@ use Rattle.device_layout.specs.declared.addr.Addr.{Addr}
 use Rattle.device_layout.specs.declared.slot.Slot.{Slot}
 use Rattle.wt_code.specs.declared.refusals.Refusal.{Refusal}
 use Rattle.wt_code.specs.declared.refusals.Refusal.TheVariants.{Limit as Refusal_Limit}
-use Rattle.wt_code.specs.declared.refusals.Limit.TheVariants.{Tables}
+use Rattle.wt_code.specs.declared.refusals.Limit.TheVariants.{Checkpoints, Tables}
+use Rattle.kv_model.specs.Content.{Content}
 use Rattle.stored.specs.TableTree.{Entry, first_key}
 use Rattle.stored.specs.Records.{TableRoot, Record}
-use Rattle.stored.specs.Stored.{Stored, IsOn, IsBlank}
+use Rattle.stored.specs.Stored.{Stored, IsOn, IsBlank, Reads}
 use Rattle.device_leaf.specs.Openings.{last_number}
+use Rattle.tree_open.specs.Damage.{Refused}
 use Rattle.tree_open.specs.Trees.{InnerIs}
-use Rattle.recover_open.specs.Bare.{IsBare}
 use Rattle.recover_open.specs.Damage.{Names, IsAmong, EntrySpoils}
-use Rattle.recover_open.specs.Recoveries.{RecoveryRefused}
+use Rattle.recover_open.specs.Wholes.{IsWholeDamage}
 
 -- ---- an opening
 
@@ -27,11 +28,12 @@ LacksNumbers r = 2 ^ 32 + length r.tables ≤ r.next_table + TABLES_MAX
 abbrev pub HasNumbers : Record → Type 0
 HasNumbers r = (r.run < last_number) × (r.next_table + TABLES_MAX < 2 ^ 32 + length r.tables)
 
--- As a recovery is refused, or since the record's next number leaves none for as many tables as an engine may have: a device that reads has that record.
+-- Why no reader is opened: as a whole survey is refused, since no run may follow the record's, or since its next number leaves none for as many tables as an engine may have. A device that reads has that record.
 abbrev pub OpenRefused : (fault known : Type 0) → List ℕ → Refusal → Type 0
 OpenRefused fault known bytes r =
-    RecoveryRefused fault known bytes r
-    ⊎ ((r ≡ Refusal_Limit Tables) × (known → (s : Stored) → IsOn bytes s → LacksNumbers s.kept) × (known → IsBlank bytes → ⊥))
+    Refused fault known (IsWholeDamage bytes) r
+    ⊎ (((r ≡ Refusal_Limit Checkpoints) × (known → (content : Content) → Reads bytes content → content.run ≡ last_number))
+    ⊎ ((r ≡ Refusal_Limit Tables) × (known → (s : Stored) → IsOn bytes s → LacksNumbers s.kept) × (known → IsBlank bytes → ⊥)))
 
 -- the same of a disk, before and after
 abbrev pub RefusesOpen : {D : Type 0} → Ghosts D → (known : Type 0) → D → D → Refusal → Type 0
@@ -44,7 +46,6 @@ pub record LeafIsAtFault (bytes : List ℕ) (at want found : ℕ) : Type 0 where
   pub slot : Slot
   pub names : Record
   pub there : Names bytes slot names
-  pub bare : IsBare names
   pub table : TableRoot
   pub among : IsAmong names.tables table
   pub es : List Entry

@@ -1,6 +1,8 @@
 //! What a device that reads as a content has for its readers.
 
-ghost use Rattle.device_read.specs.Laws.{FaultyLeavesDoNotRead, MissingLeavesAreAtFault, NoneNeedBeAtFault, ReadersHavePages, ReadersHaveTables, SpoiltDevicesHaveReaders};
+ghost use Rattle.device_read.specs.Laws.{FaultyLeavesDoNotRead, MissingLeavesAreAtFault, NoneNeedBeAtFault, ReadersHavePages, ReadersHaveTables, ReadersHaveValues, SpoiltDevicesHaveReaders};
+
+use stored::what_is_read_is_regular;
 
 /// The tables of a reader are those of the machine that an opening makes.
 pub fn readers_have_tables()
@@ -10,7 +12,16 @@ pub fn readers_have_tables()
 /// The device has the pages of each table, and they have all its rows, upwards and downwards.
 pub fn readers_have_pages()
     ensures { ReadersHavePages }
-{}
+{
+    what_is_read_is_regular();
+}
+
+/// The value of a key whose leaf is there is that of the machine that an opening makes of the whole device.
+pub fn readers_have_values()
+    ensures { ReadersHaveValues }
+{
+    what_is_read_is_regular();
+}
 
 /// A device with a leaf at fault reads as no content.
 pub fn faulty_leaves_do_not_read()

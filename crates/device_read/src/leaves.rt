@@ -1,6 +1,6 @@
 //! The leaves of one table.
 
-ghost use Rattle.std.specs.Prelude.{◌≡◌, ◌<◌, ◌≤◌, [], length, option_map, IfOk, IfErr, IsTrue};
+ghost use Rattle.std.specs.Prelude.{◌≡◌, ◌<◌, ◌≤◌, suc, [], length, drop, option_map, IfOk, IfErr, IsTrue};
 ghost use Rattle.failure.specs.Counts.{Rose};
 ghost use Rattle.disk_model.specs.Crash.{Looked};
 ghost use Rattle.row_page.specs.Rows.{is_below};
@@ -8,13 +8,18 @@ ghost use Rattle.leaf_rows.specs.Rows.{AreFit};
 ghost use Rattle.stored.specs.TableTree.{Climbs, first_key};
 ghost use Rattle.inner_page.specs.Children.{IsUnderKey};
 ghost use Rattle.tree_open.specs.Damage.{Refused};
-ghost use Rattle.device_read.specs.Readers.{entries_in};
-ghost use Rattle.device_read.specs.Steps.{IsLeafAt, LeafSpoilsAt, value_shown};
+ghost use Rattle.device_read.specs.Newest.{KeysClimb, of_leaf};
+ghost use Rattle.device_read.specs.Readers.{entries_in, low_at, number_in};
+ghost use Rattle.device_read.specs.Steps.{IsLeafAt, LeafSpoilsAt, value_with};
 
+use crate::find::table_at;
+use crate::merging::later_of;
+use crate::newest::of_leaf;
 use byte_order::order;
+use checkpoint_record::TableRoot;
 use disk_model::Disk;
 use failure::NoMemory;
-use inner_page::Entry;
+use inner_page::{Entry, HistoryRecord};
 use item::Item;
 use leaf_frame::LeafFrame;
 use leaf_load::load_leaf;
@@ -31,6 +36,16 @@ pub(crate) fn entries_at(uppers: &[Upper], place: usize) -> &[Entry]
     match uppers.get(place) {
         Some(upper) => &upper.entries,
         None => &[],
+    }
+}
+
+/// The number of the table at a place, 0 where no table is there.
+pub(crate) fn number_at(tables: &[TableRoot], place: usize) -> u32
+    ensures { result ≡ number_in tables.now place }
+{
+    match table_at(tables, place) {
+        Some(table) => table.number,
+        None => 0,
     }
 }
 
@@ -62,6 +77,33 @@ pub(crate) fn leaf_at<D: Disk>(
         marks,
         ids,
     )
+}
+
+/// The records that stand in the i-th leaf of those of this table that have these entries.
+pub(crate) fn newest_on<'a>(
+    newest: &'a [HistoryRecord],
+    table: u32,
+    entries: &[Entry],
+    i: usize,
+) -> &'a [HistoryRecord]
+    requires there { i < length entries.now }
+    requires keys { KeysClimb newest.now }
+    ensures { result.now ≡ of_leaf table (low_at entries.now i) (first_key (drop (suc i) entries.now)) newest.now }
+{
+    let next = first_key_of(&entries[i + 1..]);
+    of_leaf(newest, table, low_at(entries, i), next)
+}
+
+// The least key that may stand in the i-th leaf: in the first any.
+fn low_at(entries: &[Entry], i: usize) -> &[u8]
+    requires { i < length entries.now }
+    ensures { result.now ≡ low_at entries.now i }
+{
+    if i == 0 {
+        return &[];
+    }
+    let entry = &entries[i];
+    entry.key.as_bytes()
 }
 
 fn first_key_of(entries: &[Entry]) -> Option<&[u8]>
@@ -100,15 +142,16 @@ fn is_above(entry: &Entry, key: &[u8]) -> bool
     order(key, entry.key.as_bytes()).is_lt()
 }
 
-/// The value that a leaf gives a key, copied.
+/// The value of a key by its row on a leaf and this record of it, copied.
 pub(crate) fn value_on(
     alloc: Global,
     leaf: &LeafFrame,
     key: &[u8],
+    newest: Option<&HistoryRecord>,
 ) -> Result<Option<Item>, NoMemory>
-    ensures { IfOk result (λ v. v ≡ value_shown key.now leaf.now.page) }
+    ensures { let found = option_map (λ r. r.now.version) newest.entry in IfOk result (λ v. v ≡ value_with key.now leaf.now.page found) }
 {
-    match leaf.row(key) {
+    match later_of(leaf.row(key), newest) {
         None => Ok(None),
         Some(cell) => match cell.change {
             CellChange::Put(value) => Ok(Some(item_of(alloc, value)?)),

@@ -1,6 +1,6 @@
 //! Keys of one table, one after the other.
 
-ghost use Rattle.std.specs.Prelude.{◌≡◌, ◌<◌, length, slice_get, IfOk, IfErr, IsTrue, None, Some};
+ghost use Rattle.std.specs.Prelude.{◌≡◌, ◌<◌, length, option_map, slice_get, IfOk, IfErr, IsTrue, None, Some};
 ghost use Rattle.failure.specs.Counts.{Rose};
 ghost use Rattle.disk_model.specs.Crash.{Looked};
 ghost use Rattle.kv_model.specs.Content.{Content};
@@ -18,12 +18,13 @@ use crate::leaves::{entries_at, leaf_at, place_under, value_on};
 use crate::reader::Reader;
 use disk_model::Disk;
 use failure::NoMemory;
-use inner_page::Entry;
+use inner_page::{Entry, HistoryRecord};
 use item::Item;
 use leaf_frame::LeafFrame;
 use leaf_rows::Marks;
 use std::alloc::Global;
 use std::marker::Model;
+use stored::what_is_read_is_regular;
 use wt_code::Refusal;
 
 /// A leaf that was read, and which one of its table it is.
@@ -76,6 +77,8 @@ impl Lookup {
         ensures looked { Looked D.Disk disk.old disk.new }
         ensures home { D.home disk.new ≡ D.home disk.old }
     {
+        what_is_read_is_regular();
+        let newest = reader.newest_of(self.place, key);
         let entries = entries_at(&reader.uppers, self.place);
         value_at(
             alloc,
@@ -84,13 +87,14 @@ impl Lookup {
             key,
             reader.marks,
             &reader.ids,
+            newest,
             &mut self.last,
         )
     }
 }
 
-/// The value of a key in the one leaf of those with these entries that may have it. That leaf is the
-/// last one then.
+/// The value of a key by this record of it and its row in the one leaf of those with these entries that
+/// may have it. That leaf is the last one then.
 pub(crate) fn value_at<D: Disk>(
     alloc: Global,
     disk: &mut D,
@@ -98,10 +102,11 @@ pub(crate) fn value_at<D: Disk>(
     key: &[u8],
     marks: Marks,
     ids: &[u64],
+    newest: Option<&HistoryRecord>,
     last: &mut Option<LastLeaf>,
 ) -> Result<Option<Item>, Refusal>
     requires { Climbs entries.now }
-    ensures ok { IsTrue (D.honest disk.old) → KeepsLast (D.seen disk.old) entries.now marks ids.now last.old → IfOk result (IsValueOf (D.seen disk.old) entries.now key.now marks ids.now) }
+    ensures ok { let found = option_map (λ r. r.now.version) newest.entry in IsTrue (D.honest disk.old) → KeepsLast (D.seen disk.old) entries.now marks ids.now last.old → IfOk result (IsValueOf (D.seen disk.old) entries.now key.now marks ids.now found) }
     ensures keeps { IsTrue (D.honest disk.old) → KeepsLast (D.seen disk.old) entries.now marks ids.now last.old → KeepsLast (D.seen disk.old) entries.now marks ids.now last.new }
     ensures err { IfErr result (Refused (Rose (D.faults disk.old) (D.faults disk.new)) (IsTrue (D.honest disk.old)) (KeySpoilsAt (D.seen disk.old) entries.now key.now)) }
     ensures looked { Looked D.Disk disk.old disk.new }
@@ -113,7 +118,7 @@ pub(crate) fn value_at<D: Disk>(
     let i = place_under(entries, key);
     match leaf_for(alloc, disk, entries, i, marks, ids, last.take()) {
         Ok(kept) => {
-            let value = value_on(alloc, &kept.leaf, key);
+            let value = value_on(alloc, &kept.leaf, key, newest);
             *last = Some(kept);
             match value {
                 Ok(value) => Ok(value),

@@ -5,26 +5,30 @@ ghost use Rattle.limits.specs.declared.TheConstants.{TABLES_MAX};
 ghost use Rattle.disk_model.specs.Crash.{Looked};
 ghost use Rattle.stored.specs.Stored.{IsOn, Stored};
 ghost use Rattle.recover_open.specs.Bare.{marks_of};
-ghost use Rattle.recover_open.specs.Surveys.{AboveInForm};
+ghost use Rattle.recover_open.specs.Wholes.{WholeInForm};
 ghost use Rattle.device_read.specs.Readers.{HoldsNothing, IsReaderOf, held_of};
 ghost use Rattle.device_read.specs.Refusals.{HasNumbers, LacksNumbers, RefusesOpen};
 ghost use Rattle.device_read.specs.Steps.{CanOpen, HasNumbersAbove, RefusesNumbers, RefusesSurveyed};
 
+use crate::newest::newest_kept;
 use crate::reader::Reader;
 use checkpoint_record::{Record, Snapshot, TableRoot};
 use disk_model::Disk;
+use failure::NoMemory;
+use hist_open::History;
 use leaf_rows::Marks;
 use limits::{NUMBER_MAX, TABLES_MAX};
-use recover_open::{Above, Surveyed, survey};
+use recover_open::{SurveyedWhole, Whole, survey_whole};
 use std::alloc::Global;
 use wt_code::{Limit, Refusal};
 
-/// A reader of the last completed checkpoint of a device, of no tables where there is none. No leaf
-/// is read, and nothing is written. Refused as `recover_open::survey` says, as `75 limit checkpoints`
-/// where no run may follow the one that made the checkpoint, and as `75 limit tables` where the
-/// record's next number leaves none for as many tables as an engine may have. Where the device has all
-/// that stands above its leaves, damage is no reason. `O(bytes)` of the record and the inner pages,
-/// each read once, and `O(n)` in the blocks.
+/// A reader of the last completed checkpoint of a device, of no tables where there is none. No leaf of a
+/// table is read, and nothing is written. Refused as `recover_open::survey_whole` says, as
+/// `75 limit checkpoints` where no run may follow the one that made the checkpoint, and as
+/// `75 limit tables` where the record's next number leaves none for as many tables as an engine may
+/// have. Where the device has all that stands above its leaves, and its history, damage is no reason.
+/// `O(bytes)` of the record, the inner pages and the history, each read once, and `O(n)` in the blocks
+/// and in the records.
 pub fn open<D: Disk>(alloc: Global, disk: &mut D) -> Result<Reader, Refusal>
     ensures ok { IsTrue (D.honest disk.old) → IfOk result (IsReaderOf (D.seen disk.old)) }
     ensures numbers { IsTrue (D.honest disk.old) → OnOk result ((s : Stored) → IsOn (D.seen disk.old) s → HasNumbers s.kept) }
@@ -34,13 +38,16 @@ pub fn open<D: Disk>(alloc: Global, disk: &mut D) -> Result<Reader, Refusal>
     ensures looked { Looked D.Disk disk.old disk.new }
     ensures home { D.home disk.new ≡ D.home disk.old }
 {
-    let Surveyed { place: _, above } = match survey(alloc, disk) {
+    let SurveyedWhole { place: _, whole } = match survey_whole(alloc, disk) {
         Ok(found) => found,
         Err(refusal) => return Err(refusal),
     };
-    match above {
-        Some(above) => match check_numbers(&above.record) {
-            Ok(()) => Ok(reader_of(above)),
+    match whole {
+        Some(whole) => match check_numbers(&whole.record) {
+            Ok(()) => match reader_of(alloc, whole) {
+                Ok(reader) => Ok(reader),
+                Err(NoMemory) => Err(Refusal::NoMemory),
+            },
             Err(refusal) => Err(refusal),
         },
         None => Ok(nothing(alloc)),
@@ -99,17 +106,21 @@ fn nothing(alloc: Global) -> Reader
             max: 0,
         },
         ids: Vec::new(alloc),
+        newest: Vec::new(alloc),
     }
 }
 
-fn reader_of(above: Above) -> Reader
-    requires { AboveInForm above }
-    ensures { result ≡ held_of above }
+// The error is want of memory.
+fn reader_of(alloc: Global, whole: Whole) -> Result<Reader, NoMemory>
+    requires { WholeInForm whole }
+    ensures { IfOk result (λ r. r ≡ held_of whole) }
 {
-    let Above {
+    let Whole {
         record: found,
         uppers,
-    } = above;
+        history,
+    } = whole;
+    let History { records, addrs: _ } = history;
     let marks = marks_of(&found);
     let Record {
         tables,
@@ -117,12 +128,14 @@ fn reader_of(above: Above) -> Reader
         ..
     } = found;
     let Snapshot { ids, .. } = snapshot;
-    Reader {
+    let newest = newest_kept(alloc, records, &marks, &ids)?;
+    Ok(Reader {
         tables,
         uppers,
         marks,
         ids,
-    }
+        newest,
+    })
 }
 
 fn marks_of(found: &Record) -> Marks

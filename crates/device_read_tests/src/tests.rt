@@ -1,9 +1,8 @@
 // What is read of devices in memory.
 use block_sum::sum;
-use device_read::{Lookup, Reader, open};
+use device_read::{LeafRows, Lookup, OpenedLeaf, Reader, open};
 use disk_model::MemDisk;
 use item::Item;
-use leaf_frame::LeafFrame;
 use std::alloc::Global;
 use std::process::Abort;
 use wt_code::{Limit, Refusal};
@@ -73,6 +72,25 @@ const SECOND: [u8; 102] = [
     0, 0, 0, 0, 0, b'c', 0, b'3', 0,
 ];
 
+// Eight records, all of no stamp: of table 1 key a, value 4, run 2, id 3; of table 2 key b, value 9, run 1,
+// id 3, and value 0, run 1, id 7, key c, value 8, run 1, id 2, and a removal of d, run 1, id 4; of table 3
+// key b, value 7, run 1, id 5, key dd, value 6, run 2, id 5, and key f, value 5, run 1, id 1.
+const HISTORY: [u8; 391] = [
+    3, 1, 8, 0, 135, 1, 0, 0, 0, 0, 0, 0, 0, 0, 0, 0, 1, 0, 0, 0, 2, 0, 1, 2, 0, 0, 0, 2, 0, 0, 0,
+    0, 0, 0, 0, 3, 0, 0, 0, 0, 0, 0, 0, 0, 0, 0, 0, 0, 0, 0, 0, 0, 0, 0, 0, 0, 0, 0, 0, 97, 0, 52,
+    0, 2, 0, 0, 0, 2, 0, 1, 2, 0, 0, 0, 1, 0, 0, 0, 0, 0, 0, 0, 3, 0, 0, 0, 0, 0, 0, 0, 0, 0, 0, 0,
+    0, 0, 0, 0, 0, 0, 0, 0, 0, 0, 0, 0, 98, 0, 57, 0, 2, 0, 0, 0, 2, 0, 1, 2, 0, 0, 0, 1, 0, 0, 0,
+    0, 0, 0, 0, 7, 0, 0, 0, 0, 0, 0, 0, 0, 0, 0, 0, 0, 0, 0, 0, 0, 0, 0, 0, 0, 0, 0, 0, 98, 0, 48,
+    0, 2, 0, 0, 0, 2, 0, 1, 2, 0, 0, 0, 1, 0, 0, 0, 0, 0, 0, 0, 2, 0, 0, 0, 0, 0, 0, 0, 0, 0, 0, 0,
+    0, 0, 0, 0, 0, 0, 0, 0, 0, 0, 0, 0, 99, 0, 56, 0, 2, 0, 0, 0, 2, 0, 2, 0, 0, 0, 0, 1, 0, 0, 0,
+    0, 0, 0, 0, 4, 0, 0, 0, 0, 0, 0, 0, 0, 0, 0, 0, 0, 0, 0, 0, 0, 0, 0, 0, 0, 0, 0, 0, 100, 0, 3,
+    0, 0, 0, 2, 0, 1, 2, 0, 0, 0, 1, 0, 0, 0, 0, 0, 0, 0, 5, 0, 0, 0, 0, 0, 0, 0, 0, 0, 0, 0, 0, 0,
+    0, 0, 0, 0, 0, 0, 0, 0, 0, 0, 98, 0, 55, 0, 3, 0, 0, 0, 3, 0, 1, 2, 0, 0, 0, 2, 0, 0, 0, 0, 0,
+    0, 0, 5, 0, 0, 0, 0, 0, 0, 0, 0, 0, 0, 0, 0, 0, 0, 0, 0, 0, 0, 0, 0, 0, 0, 0, 100, 100, 0, 54,
+    0, 3, 0, 0, 0, 2, 0, 1, 2, 0, 0, 0, 1, 0, 0, 0, 0, 0, 0, 0, 1, 0, 0, 0, 0, 0, 0, 0, 0, 0, 0, 0,
+    0, 0, 0, 0, 0, 0, 0, 0, 0, 0, 0, 0, 102, 0, 53, 0,
+];
+
 #[derive(Clone, Copy, Debug, PartialEq, Eq)]
 enum Told {
     // how many there are
@@ -102,6 +120,36 @@ const KEYS: [(usize, &[u8], Told); 12] = [
     (2, b"c\0", Told::Found(b'1')),
     // no table is there
     (3, b"a\0", Told::Absent),
+];
+
+// The same of the device with the history.
+const OLDER: [(usize, &[u8], Told); 11] = [
+    // the record is later than the cell
+    (0, b"a\0", Told::Found(b'4')),
+    // the cell is by the id 5, which had not ended: the newest record
+    (1, b"b\0", Told::Found(b'0')),
+    // the cell is later
+    (1, b"c\0", Told::Found(b'3')),
+    // there is no cell: a removal
+    (1, b"d\0", Told::Absent),
+    (2, b"b\0", Told::Found(b'7')),
+    (2, b"c\0", Told::Found(b'1')),
+    // the record is by the id 5
+    (2, b"dd\0", Told::Absent),
+    (2, b"e\0", Told::Found(b'1')),
+    (2, b"f\0", Told::Found(b'5')),
+    (2, b"g\0", Told::Absent),
+    // no table is there
+    (3, b"f\0", Told::Absent),
+];
+
+// Of the device with the history: what is changed, and what is told of an opening.
+const HISTORIES: [(&[(usize, u8)], Told); 3] = [
+    (&[], Told::Tables(3)),
+    // byte 1 of the history's leaf is 2 in place of 1
+    (&[(32_769, 2)], Told::Corrupt(32_768, 315900, 315902)),
+    // a leaf of a table has another sum, which nobody reads
+    (&[(28_672, 2)], Told::Tables(3)),
 ];
 
 // What is changed before the sums are made, and behind that, and what is told of an opening, and then
@@ -217,6 +265,23 @@ fn device(
     before: &[(usize, u8)],
     behind: &[(usize, u8)],
 ) -> MemDisk {
+    let mut content = tables(rt, alloc);
+    change(rt, &mut content, before);
+    disk_of(rt, alloc, content, behind)
+}
+
+// With a history, whose one leaf stands behind the others.
+fn device_with_history(rt: &impl Abort, alloc: Global, behind: &[(usize, u8)]) -> MemDisk {
+    let mut content = tables(rt, alloc);
+    content.resize(36_864, 0).expect(rt, "there is memory");
+    put(rt, &mut content, 32_768, &HISTORY);
+    let link = [(8_272, 0x80), (8_280, 0x10), (8_287, 2), (8_295, 5)];
+    change(rt, &mut content, &link);
+    put_sum(rt, &mut content, 32_768, 8_283);
+    disk_of(rt, alloc, content, behind)
+}
+
+fn tables(rt: &impl Abort, alloc: Global) -> Vec<u8> {
     let mut content = Vec::new(alloc);
     content.resize(32_768, 0).expect(rt, "there is memory");
     put(rt, &mut content, 0, &SLOT);
@@ -231,7 +296,12 @@ fn device(
         &mut content,
         &[(24_631, b'c'), (28_703, 3), (28_727, b'e')],
     );
-    change(rt, &mut content, before);
+    content
+}
+
+// Makes the sums.
+fn disk_of(rt: &impl Abort, alloc: Global, content: Vec<u8>, behind: &[(usize, u8)]) -> MemDisk {
+    let mut content = content;
     put_sum(rt, &mut content, 12_288, 8_331);
     put_sum(rt, &mut content, 16_384, 8_380);
     put_sum(rt, &mut content, 24_576, 20_510);
@@ -266,15 +336,19 @@ fn value_in(answer: Result<Option<Item>, Refusal>) -> Told {
 }
 
 // Whether these are the keys of the leaf.
-fn has_keys(leaf: &LeafFrame, keys: &[&[u8]]) -> bool {
-    let Some(page) = leaf.page() else {
-        return keys.is_empty();
-    };
-    if page.len() != keys.len() {
+fn has_keys(alloc: Global, leaf: &OpenedLeaf<'_>, keys: &[&[u8]]) -> bool {
+    match leaf.rows(alloc) {
+        Ok(rows) => are_keys(&rows, keys),
+        Err(_) => false,
+    }
+}
+
+fn are_keys(rows: &LeafRows<'_>, keys: &[&[u8]]) -> bool {
+    if rows.len() != keys.len() {
         return false;
     }
-    for i in 0..page.len() {
-        if keys.get(i).copied() != Some(page.key(i)) {
+    for i in 0..rows.len() {
+        if keys.get(i).copied() != Some(rows.cell(i).key) {
             return false;
         }
     }
@@ -313,7 +387,7 @@ fn tables_pages_and_keys_are_read(rt: HostRuntime) {
     for (place, i, keys) in pages {
         if i < reader.leaves(place) {
             let leaf = reader.leaf(alloc, &mut disk, place, i);
-            assert!(rt; has_keys(&leaf.expect(&rt, "a leaf"), keys));
+            assert!(rt; has_keys(alloc, &leaf.expect(&rt, "a leaf"), keys));
         } else {
             assert!(rt; false);
         }
@@ -364,5 +438,45 @@ fn damage_is_told_where_it_is_read(rt: HostRuntime) {
             Err(refusal) => refused(refusal),
         };
         assert_eq!(rt; told, Told::Refused(Refusal::DiskFault), "{calls}");
+    }
+}
+
+#[test]
+fn newest_records_are_read_where_cells_are_hidden(rt: HostRuntime) {
+    let alloc = rt.alloc();
+    let mut disk = device_with_history(&rt, alloc, &[]);
+    let reader = open(alloc, &mut disk).expect(&rt, "a reader");
+    let pages: [(usize, usize, &[&[u8]]); 4] = [
+        (0, 0, &[b"a\0"]),
+        (1, 0, &[b"b\0", b"c\0", b"d\0"]),
+        (2, 0, &[b"b\0", b"c\0"]),
+        (2, 1, &[b"e\0", b"f\0"]),
+    ];
+    for (place, i, keys) in pages {
+        if i < reader.leaves(place) {
+            let leaf = reader.leaf(alloc, &mut disk, place, i);
+            assert!(rt; has_keys(alloc, &leaf.expect(&rt, "a leaf"), keys));
+        } else {
+            assert!(rt; false);
+        }
+    }
+    let mut lookups = [
+        Lookup::new(0),
+        Lookup::new(1),
+        Lookup::new(2),
+        Lookup::new(3),
+    ];
+    for (place, key, want) in OLDER {
+        assert_eq!(rt; value_in(reader.get(alloc, &mut disk, place, key)), want);
+        let lookup = lookups.get_mut(place).expect(&rt, "a place");
+        assert_eq!(rt; value_in(lookup.get(alloc, &mut disk, &reader, key)), want);
+    }
+    for (behind, want) in HISTORIES {
+        let mut disk = device_with_history(&rt, alloc, behind);
+        let told = match open(alloc, &mut disk) {
+            Ok(reader) => Told::Tables(reader.len()),
+            Err(refusal) => refused(refusal),
+        };
+        assert_eq!(rt; told, want);
     }
 }

@@ -1,5 +1,5 @@
 -- An engine on what a device holds.
-use Rattle.std.proofs.Common.{◌≡◌, ◌+◌, ◌^◌, ◌<◌, ◌≤◌, ℕ, zero, suc, refl, ap, sym, ◌∙◌, List, length, inr, subst, arith}
+use Rattle.std.proofs.Common.{◌≡◌, ◌+◌, ◌^◌, ◌<◌, ◌≤◌, ℕ, zero, suc, refl, ap, sym, ◌∙◌, List, [], length, inr, subst, arith}
 use Rattle.std.specs.Prelude.{Option, None, map, reverse}
 use Rattle.std.specs.List.{Contains}
 use Rattle.limits.specs.declared.TheConstants.{NUMBER_MAX, TABLES_MAX}
@@ -18,6 +18,7 @@ use Rattle.call_turns.specs.Seats.{AllRun, AreSeated}
 use Rattle.engine_world.specs.Leaves.{FramesStand, LeavesOwned, TablesBegun}
 use Rattle.engine_world.specs.Stands.{Engine}
 use Rattle.engine_world.specs.Systems.{Begins, LeafStarts}
+use Rattle.engine_world.specs.Worlds.{Records}
 use Rattle.engine.specs.Bases.{IsBaseOf}
 use Rattle.engine.specs.Openings.{IsOpened, no_calls}
 use Rattle.engine.specs.Sizes.{LeavesFit, NamesFit, SessionsFit}
@@ -34,8 +35,8 @@ none-built (suc (suc (suc zero))) asked is = absurd (cc)
 none-built (suc (suc (suc (suc i)))) asked is = absurd (cc)
 
 module _ (e : Engine) (run oldest stable : ℕ) (known : Known) (dir : Directory) (o : IsOpened run oldest stable known dir e) (owned : LeavesOwned known.tables dir.leaves) where
-  pub begins-on : AreTables known → IsDirectory dir → (c : Content) (shelf : ℕ → List Row) → IsBaseOf c shelf run oldest stable known dir → Begins c shelf e
-  begins-on all is c shelf base = record {
+  pub begins-on : AreTables known → IsDirectory dir → (c : Content) (shelf : ℕ → List Row) (records : Records) → IsBaseOf c shelf records run oldest stable known dir → Begins c shelf records e
+  begins-on all is c shelf records base = record {
     fault = ap (λ (h : Hub). h.fault) o.hub;
     stamps = ap (λ (h : Hub). h.stamps) o.hub ∙ (ap (λ n. record { oldest = n; stable = stable }) base.oldest_is ∙ ap (λ n. record { oldest = c.oldest; stable = n }) base.stable_is);
     txns = ap (λ (h : Hub). h.txns) o.hub ∙ ap (λ n. fresh n 0) base.run_is;
@@ -44,7 +45,8 @@ module _ (e : Engine) (run oldest stable : ℕ) (known : Known) (dir : Directory
     dir = subst (λ (h : Hub). IsDirectory h.dir) (sym o.hub) is;
     begun = subst (λ (h : Hub). TablesBegun h.tables.tables h.dir.leaves) (sym o.hub) base.begun;
     owned = subst (λ (h : Hub). LeavesOwned h.tables.tables h.dir.leaves) (sym o.hub) owned;
-    leaves = subst (λ (h : Hub). (l : Leaf) → Contains h.dir.leaves l → LeafStarts c shelf h.dir.leaves e.pieces e.states l) (sym o.hub) (λ l there. inr (base.leaves l there));
+    leaves = subst (λ (h : Hub). (l : Leaf) → Contains h.dir.leaves l → LeafStarts c shelf records h.dir.leaves e.pieces e.states l) (sym o.hub) (λ l there. inr (base.leaves l there));
+    unused = subst (λ (h : Hub). (id : ℕ) → h.dir.next ≤ id → (key : List ℕ) → records id key ≡ []) (sym o.hub) base.unused;
     frames = subst (λ (ps : List FramePiece). FramesStand ps e.states) (sym o.pieces) (λ frame. record { below = omega arith; word = omega arith });
     sessions = o.sessions;
     systems = subst (λ (calls : List (Option SystemCall)). map (λ x. None) calls ≡ calls) (sym o.systems) refl;

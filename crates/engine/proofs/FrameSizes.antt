@@ -17,12 +17,12 @@ use Rattle.update_chain.specs.declared.look.Judgement.TheVariants.{Allowed, Refu
 use Rattle.update_chain.specs.declared.update.Update.{Update}
 use Rattle.update_chain.specs.Updates.{Reply, Gives, IsRemoved, Conflicts, IsOlder, is_named, unmarked_update}
 use Rattle.update_chain.specs.Writing.{may_follow_by}
-use Rattle.rows_shown.specs.Shows.{shown_at}
+use Rattle.reconcile.specs.Shows.{shown_at}
 use Rattle.leaf_frame.specs.Leaf.{HeldLeaf}
 use Rattle.leaf_frame.specs.Looks.{read_at}
 use Rattle.leaf_chains.specs.Slots.{chain_at}
-use Rattle.leaf_capture.specs.Cells.{cell_version}
-use Rattle.leaf_capture.proofs.Fitting.{install_fits}
+use Rattle.reconcile.specs.Cells.{cell_version}
+use Rattle.reconcile.proofs.Fitting.{install_fits}
 use Rattle.wt_calls.specs.declared.demand.Demand.{Demand}
 use Rattle.wt_calls.specs.declared.demand.Demand.TheVariants as demand
 use Rattle.wt_calls.specs.Calls.{way_in}

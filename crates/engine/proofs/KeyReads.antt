@@ -11,7 +11,7 @@ use Rattle.kv_model.specs.Decisions.{Outcome, Done, Gives as ModelGives, Refused
 use Rattle.kv_model.specs.History.{Table, named, tables}
 use Rattle.kv_model.specs.Machine.{Machine, Transaction, Nothing}
 use Rattle.kv_model.specs.Told.{Tells}
-use Rattle.rows_shown.specs.Shows.{shown_at}
+use Rattle.reconcile.specs.Shows.{shown_at}
 use Rattle.tree_dir.specs.declared.leaf.Framed.{Framed}
 use Rattle.tree_dir.specs.declared.leaf.Leaf.{Leaf}
 use Rattle.tree_dir.specs.Leaves.{leaf_under}

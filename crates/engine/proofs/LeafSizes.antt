@@ -9,8 +9,8 @@ use Rattle.update_chain.specs.declared.update.Update.{Update}
 use Rattle.update_chain.specs.Updates.{is_named, marked, stamped}
 use Rattle.leaf_chains.specs.declared.slot.KeyChain.{KeyChain}
 use Rattle.leaf_chains.specs.Slots.{chain_at, slot_changed}
-use Rattle.leaf_capture.specs.Capture.{ChainFits, ChainsFit}
-use Rattle.leaf_capture.specs.Cells.{cell_change, cell_version}
+use Rattle.reconcile.specs.Capture.{ChainFits, ChainsFit}
+use Rattle.reconcile.specs.Cells.{cell_change, cell_version}
 use Rattle.leaf_frame.specs.Leaf.{HeldLeaf}
 use Rattle.call_steps.specs.declared.edit.Edit.{Edit}
 use Rattle.call_steps.specs.declared.edit.Edit.TheVariants as edit

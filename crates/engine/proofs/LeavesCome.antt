@@ -6,7 +6,7 @@ use Rattle.std.proofs.lemmas.Bool.{cases_Bool}
 use Rattle.std.proofs.lemmas.Option.{same_Some}
 use Rattle.kv_model.specs.History.{Table}
 use Rattle.kv_model.specs.Machine.{of_some}
-use Rattle.leaf_capture.specs.Capture.{ChainsFit}
+use Rattle.reconcile.specs.Capture.{ChainsFit}
 use Rattle.leaf_frame.specs.Leaf.{HeldLeaf}
 use Rattle.tree_dir.specs.declared.leaf.Framed.{Framed}
 use Rattle.tree_dir.specs.declared.leaf.Leaf.{Leaf}

@@ -18,7 +18,7 @@ use Rattle.kv_model.specs.Reads.{IsEnding, ReadAnswer, Value}
 use Rattle.kv_model.specs.Rows.{Up, Down, Way as KeyWay, AbsentBefore, NextAnswer, RowAnswer, is_past, starts_at}
 use Rattle.kv_model.proofs.EveryEvent.{valid-after}
 use Rattle.kv_model.proofs.Seats.{seat-inside}
-use Rattle.rows_shown.specs.Shows.{shown_at}
+use Rattle.reconcile.specs.Shows.{shown_at}
 use Rattle.tree_dir.specs.declared.leaf.Framed.{Framed}
 use Rattle.tree_dir.specs.declared.leaf.Leaf.{Leaf}
 use Rattle.tree_dir.specs.Leaves.{leaf_under}

@@ -9,7 +9,7 @@ use Rattle.kv_model.specs.Decisions.{Outcome, Done, Refused, StartCall, decision
 use Rattle.kv_model.specs.History.{Table}
 use Rattle.kv_model.specs.Machine.{Machine, Event, CheckpointStart, Nothing}
 use Rattle.update_chain.specs.EventLaws.{StandsFor}
-use Rattle.rows_shown.specs.Shows.{shown_at}
+use Rattle.reconcile.specs.Shows.{shown_at}
 use Rattle.leaf_frame.specs.Leaf.{HeldLeaf}
 use Rattle.leaf_chains.specs.Slots.{chain_at}
 use Rattle.call_steps.specs.declared.hub.Hub.{Hub}

@@ -5,7 +5,7 @@ use Rattle.kv_model.specs.Refusals.{or_stamp, stamp_of}
 use Rattle.txn_table.specs.declared.phase.Phase.{Phase}
 use Rattle.txn_table.specs.declared.phase.Phase.TheVariants as phase
 use Rattle.txn_table.specs.Tabled.{Table, session_of}
-use Rattle.leaf_capture.specs.Capture.{ChainsFit}
+use Rattle.reconcile.specs.Capture.{ChainsFit}
 use Rattle.leaf_frame.specs.Leaf.{HeldLeaf}
 use Rattle.call_steps.specs.declared.frame.Frame.{Frame}
 use Rattle.call_steps.specs.declared.frame.FramePiece.{FramePiece}

@@ -11,7 +11,7 @@ ghost use Rattle.kv_model.specs.Machine.{GoDown, after};
 ghost use Rattle.snapshot.specs.Matters.{AreUnended, NoneResolves, SeesCommitted};
 ghost use Rattle.snapshot.specs.Sight.{sight_at};
 ghost use Rattle.txn_table.specs.Tabled.{unended};
-ghost use Rattle.leaf_capture.specs.Capture.{ChainsFit};
+ghost use Rattle.reconcile.specs.Capture.{ChainsFit};
 ghost use Rattle.tree_dir.specs.Leaves.{IsDirectory};
 ghost use Rattle.catalog.specs.Known.{AreTables};
 ghost use Rattle.engine_world.specs.Leaves.{frame_in};

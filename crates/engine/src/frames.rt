@@ -2,7 +2,7 @@
 // which do nothing.
 
 ghost use Rattle.std.specs.Prelude.{◌≡◌, ◌<◌, ◌+◌, ◌^◌, [], false, length, option_map, vec_capacity, vec_len, IfOk, IfSome, IsTrue, OnErr, OnOk};
-ghost use Rattle.leaf_capture.specs.Capture.{ChainsFit};
+ghost use Rattle.reconcile.specs.Capture.{ChainsFit};
 ghost use Rattle.engine_world.specs.Coming.{ComesFrom};
 ghost use Rattle.engine_world.specs.Leaves.{frame_in, generation_at};
 ghost use Rattle.engine_world.specs.Stands.{Stands};

@@ -13,7 +13,7 @@ ghost use Rattle.engine_world.specs.Leaves.{LeavesOwned};
 ghost use Rattle.engine_world.specs.Stands.{Stands};
 ghost use Rattle.engine_world.specs.Steps.{MayBegin};
 ghost use Rattle.engine_world.specs.Systems.{first_world};
-ghost use Rattle.engine_world.specs.Worlds.{World};
+ghost use Rattle.engine_world.specs.Worlds.{Records, World};
 ghost use Rattle.engine.specs.Bases.{IsBaseOf};
 ghost use Rattle.engine.specs.Directories.{HubGoesOn};
 ghost use Rattle.engine.specs.Openings.{IsOpened};
@@ -70,7 +70,7 @@ impl Local {
         requires stamps { StampsFit oldest stable }
         requires begun { 1 ≤ run }
         requires run { run ≤ NUMBER_MAX }
-        ensures stands { (c : Content) (shelf : ℕ → List ARow) → IsRegular c → IsBaseOf c shelf run oldest stable tables dir → IfOk result (λ l. Stands l (first_world c shelf l)) }
+        ensures stands { (c : Content) (shelf : ℕ → List ARow) (records : Records) → IsRegular c → IsBaseOf c shelf records run oldest stable tables dir → IfOk result (λ l. Stands l (first_world c shelf records l)) }
         ensures opened { IfOk result (λ l. IsOpened run oldest stable tables dir l) }
     {
         let parts = Parts::new(alloc, run, oldest, stable, tables, dir)?;

@@ -9,6 +9,7 @@ ghost use Rattle.row_page.specs.Rows.{Row as ARow};
 ghost use Rattle.engine_world.specs.Leaves.{LeavesOwned};
 ghost use Rattle.engine_world.specs.Stands.{Stands};
 ghost use Rattle.engine_world.specs.Systems.{first_world};
+ghost use Rattle.engine_world.specs.Worlds.{Records};
 ghost use Rattle.engine.specs.Bases.{IsBaseOf};
 ghost use Rattle.engine.specs.Openings.{IsOpened};
 ghost use Rattle.engine.specs.Sound.{IsSound};
@@ -44,7 +45,7 @@ impl Parts {
         requires stamps { StampsFit oldest stable }
         requires begun { 1 ≤ run }
         requires run { run ≤ NUMBER_MAX }
-        ensures stands { (c : Content) (shelf : ℕ → List ARow) → IsRegular c → IsBaseOf c shelf run oldest stable tables dir → IfOk result (λ p. Stands p (first_world c shelf p)) }
+        ensures stands { (c : Content) (shelf : ℕ → List ARow) (records : Records) → IsRegular c → IsBaseOf c shelf records run oldest stable tables dir → IfOk result (λ p. Stands p (first_world c shelf records p)) }
         ensures opened { IfOk result (λ p. IsOpened run oldest stable tables dir p) }
         ensures sound { IfOk result (λ p. IsSound p) }
     {

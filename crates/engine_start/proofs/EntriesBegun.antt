@@ -1,35 +1,42 @@
 -- An engine on tables of which no leaf was read begins on what the device has.
-use Rattle.std.proofs.Common.{◌≡◌, ℕ, zero, suc, List, [], ◌∷◌, ◌++◌, length, None, Some, refl, sym, ap, subst, ◌∙◌, inl, inr, arith}
-use Rattle.std.specs.Prelude.{reverse, slice_get}
+use Rattle.std.proofs.Common.{◌≡◌, ◌+◌, ℕ, zero, suc, List, [], ◌∷◌, ◌++◌, length, None, Some, refl, sym, ap, subst, ◌∙◌, inl, inr, arith}
+use Rattle.std.specs.Prelude.{Bool, Option, drop, filter, find, map, option_map, reverse, slice_get, true}
+use Rattle.std.proofs.lemmas.Bool.{cases_Bool}
 use Rattle.std.specs.List.{AllByRecursion, Contains}
 use Rattle.std.specs.Option.{option_to_list}
+use Rattle.item.specs.declared.change.Change.{Change}
+use Rattle.stamp.specs.declared.version.Version.{Version}
+use Rattle.kv_model.specs.AgreementLaws.{head_of}
 use Rattle.kv_model.specs.Content.{Content, base, descending, table_lt}
-use Rattle.kv_model.specs.History.{Entry as Placing, Table, line}
+use Rattle.kv_model.specs.History.{Entry as Placing, Placed, Table, has_table, is_at, line, of_key}
 use Rattle.kv_model.specs.Holds.{Member}
 use Rattle.kv_model.specs.Regular.{AllApart, SameNumber}
 use Rattle.kv_model.proofs.Sorting.{member-descending}
 use Rattle.row_page.specs.Rows.{Row}
 use Rattle.leaf_rows.specs.declared.marks.Marks.{Marks}
 use Rattle.leaf_rows.specs.Contents.{is_seen_row, seen_rows}
+use Rattle.leaf_rows.specs.Rows.{AreFit}
 use Rattle.leaf_rows.proofs.Filters.{filter_fit}
-use Rattle.rows_shown.specs.Shows.{shown_at}
+use Rattle.reconcile.specs.Shows.{shown_at}
 use Rattle.stored.specs.Tree.{join}
 use Rattle.stored.specs.TableTree.{Entry, first_key}
 use Rattle.tree_dir.specs.declared.leaf.Leaf.{Leaf}
 use Rattle.tree_dir.specs.Leaves.{leaf_under, leaves_with, no_leaves}
-use Rattle.tree_dir.proofs.Members.{head-in}
+use Rattle.tree_dir.proofs.Members.{head-in, split}
 use Rattle.engine_world.specs.Leaves.{TablesBegun}
 use Rattle.engine_world.specs.Stands.{Engine}
-use Rattle.engine_world.specs.Systems.{Begins, StartsOnDevice}
+use Rattle.txn_table.specs.Tabled.{fresh}
+use Rattle.engine_world.specs.Systems.{AreNewest, Begins, StartsOnDevice}
+use Rattle.engine_world.specs.Worlds.{Records}
 use Rattle.engine_start.specs.declared.table_entries.TableEntries.{TableEntries}
 use Rattle.engine_start.specs.ContentLaws.{SeenStay}
-use Rattle.engine_start.specs.Contents.{TableLeaf, leaves_content_with, seen_leaf, seen_leaves, tables_in}
-use Rattle.engine_start.specs.Entries.{IsParted, IsShelf, IsUnread, Led, entries_of, leaves_led, tables_of, whole_table, whole_tables}
-use Rattle.engine_start.specs.EntryLaws.{UnreadBegin}
+use Rattle.engine_start.specs.Contents.{TableLeaf, cells_in, content_with, leaves_content_with, seen_leaf, seen_leaves, tables_in}
+use Rattle.engine_start.specs.Entries.{IsContentOf, IsParted, IsShelf, IsUnread, Led, StartsOn, entries_of, leaves_led, tables_of, whole_table, whole_tables}
+use Rattle.engine_start.specs.EntryLaws.{BareLeavesStart, IsLeafOfCells, LeavesHaveCells, UnreadBegin}
 use Rattle.engine_start.proofs.EntryLeaves.{none_elsewhere, shown_under}
 use Rattle.engine_start.proofs.Inserting.{turned}
 use Rattle.engine_start.proofs.KeyedRows.{joined_fit}
-use Rattle.engine_start.proofs.LeafCells.{AllFit, leaf_line, same_base, tables_seen}
+use Rattle.engine_start.proofs.LeafCells.{AllFit, has, leaf_line, of_key_leaf, same_base, tables_seen}
 use Rattle.engine_start.proofs.Placing.{leaves_owned}
 use Rattle.engine_start.proofs.TablesAdded.{OwnIs, contains_own, leaf_added, none_framed, own_added, own_contains, under_own}
 
@@ -96,14 +103,49 @@ named_table [] t there = absurd there
 named_table (x ∷ tables) t (inl same) = (x, inl refl, same)
 named_table (x ∷ tables) t (inr there) = let later = named_table tables t there in (later.0, inr later.1, later.2)
 
+-- ---- the newest of a list
+
+newest_alone : (versions : List (Version Change)) (row : Option (Version Change)) → versions ≡ option_to_list row → AreNewest versions row []
+newest_alone versions None is = record { newest = ap head_of (sym is); others = ap (drop 1) (sym is) }
+newest_alone versions (Some v) is = record { newest = ap head_of (sym is); others = ap (drop 1) (sym is) }
+
+first_of : (o : Option (Version Change)) → head_of (option_to_list o) ≡ o
+first_of None = refl
+first_of (Some v) = refl
+
+found_first : (p : Placed → Bool) (l : List Placed) → option_map (λ (x : Placed). x.version) (find p l) ≡ head_of (map {A = Placed} (λ x. x.version) (filter p l))
+found_first p [] = refl
+found_first p (x ∷ l) = elim (cases_Bool (p x)) [ inl is ↦ rw is refl | inr isnt ↦ rw isnt (found_first p l) ]
+
+filter_all : (rows : List Row) → filter (λ r. true) rows ≡ rows
+filter_all [] = refl
+filter_all (r ∷ rows) = ap (λ (l : List Row). r ∷ l) (filter_all rows)
+
+-- ---- the leaf of an entry
+
+led_fit : (led : Entry → List Row) (es : List Entry) (e : Entry) → AllByRecursion (λ (rows : List Row). AreFit rows) (map led es) → Member e es → AreFit (led e)
+led_fit led [] e fit there = absurd there
+led_fit led (x ∷ es) e fit (inl same) = subst (λ (y : Entry). AreFit (led y)) (sym same) fit.0
+led_fit led (x ∷ es) e fit (inr there) = led_fit led es e fit.1 there
+
+member_entry : (number : ℕ) (ids : List ℕ) (es : List Entry) (l : Leaf) → Contains (leaves_with number ids es) l → Member l.entry es
+member_entry number [] es l there = absurd (omega (arith, there.1))
+member_entry number (id ∷ ids) [] l there = absurd (omega (arith, there.1))
+member_entry number (id ∷ ids) (x ∷ es) l there = elim (split (record { id = id; table = number; entry = x; frame = None }) l (leaves_with number ids es) there) [
+  | inl same ↦ inl (ap (λ (y : Leaf). y.entry) (sym same))
+  | inr later ↦ inr (member_entry number ids es l later)
+]
+
+member_its : (t : TableEntries) (tables : List TableEntries) → Member t tables → Member t.table (tables_of tables)
+member_its t [] there = absurd there
+member_its t (x ∷ tables) (inl same) = inl (ap (λ (y : TableEntries). y.table) same)
+member_its t (x ∷ tables) (inr there) = inr (member_its t tables there)
+
 -- ---- the engine
 
-module _ (stay : SeenStay) (m : Marks) (ids : List ℕ) (led : Led) (shelf : ℕ → List Row) (tables : List TableEntries) (e : Engine) (apart : AllApart SameNumber (tables_of tables)) (parted : AllByRecursion (IsParted led) tables) (unread : IsUnread m tables e) (shelved : IsShelf m ids led shelf e.hub.dir.leaves) where
+module _ (m : Marks) (led : Led) (tables : List TableEntries) (e : Engine) (apart : AllApart SameNumber (tables_of tables)) (parted : AllByRecursion (IsParted led) tables) (unread : IsUnread m tables e) where
   abbrev leaves : List Leaf
   leaves = e.hub.dir.leaves
-
-  abbrev content : Content
-  content = leaves_content_with m ids (whole_tables led tables)
 
   own_of : (t : TableEntries) → Member t tables → OwnIs leaves t
   own_of t there = own_added no_leaves e.hub.dir tables t unread.added apart there
@@ -132,29 +174,58 @@ module _ (stay : SeenStay) (m : Marks) (ids : List ℕ) (led : Led) (shelf : ℕ
     under_its : (key : List ℕ) → leaf_under l.table key leaves ≡ leaf_under its_table.table.number key its_leaves
     under_its key = ap (λ n. leaf_under n key leaves) table_of.2 ∙ (under_own its_table.table.number key leaves ∙ ap (leaf_under its_table.table.number key) its_own.are)
 
-    shelf_is : shelf l.id ≡ seen_rows m ids (led its_table.table.number l.entry)
-    shelf_is = shelved l there ∙ ap (λ n. seen_rows m ids (led n l.entry)) table_of.2
+    -- what a test leaves of the rows of its table shows of a key that lies in it what it leaves of its own
+    shown_is : (p : Row → Bool) (key : List ℕ) → leaf_under l.table key leaves ≡ Some l → shown_at key (filter p (join (leaves_led led its_table))) ≡ shown_at key (filter p (led its_table.table.number l.entry))
+    shown_is p key is = shown_under its_table.table.number key p (led its_table.table.number) its_own.ids (entries_of its_table) l its_own.many its_parts.entries.climbs its_parts.stay (sym (under_its key) ∙ is)
 
-    its_line : (key : List ℕ) → line (base content) l.table key ≡ option_to_list (shown_at key (seen_rows m ids (join (leaves_led led its_table))))
-    its_line key =
-        ap (λ n. line (base content) n key) table_of.2
-        ∙ seen_line stay m ids (whole_tables led tables) (whole_table led its_table) key (subst (λ (ts : List Table). AllApart SameNumber ts) (sym (whole_are led tables)) apart) (whole_fit led tables parted) (member_whole led its_table tables table_of.1)
+    -- and of any other none
+    none_is : (p : Row → Bool) (key : List ℕ) → (leaf_under l.table key leaves ≡ Some l → ⊥) → shown_at key (filter p (led its_table.table.number l.entry)) ≡ None
+    none_is p key other = none_elsewhere its_table.table.number key p (led its_table.table.number) its_own.ids (entries_of its_table) l its_own.many its_parts.entries.climbs its_parts.stay among_its (λ is. other (under_its key ∙ is))
 
-    shown_is : (key : List ℕ) → leaf_under l.table key leaves ≡ Some l → shown_at key (seen_rows m ids (join (leaves_led led its_table))) ≡ shown_at key (shelf l.id)
-    shown_is key is =
-        shown_under its_table.table.number key (is_seen_row m ids) (led its_table.table.number) its_own.ids (entries_of its_table) l its_own.many its_parts.entries.climbs its_parts.stay (sym (under_its key) ∙ is)
-        ∙ ap (shown_at key) (sym shelf_is)
+    abbrev all_tables : List TableLeaf
+    all_tables = whole_tables led tables
 
-    none_is : (key : List ℕ) → (leaf_under l.table key leaves ≡ Some l → ⊥) → shown_at key (shelf l.id) ≡ None
-    none_is key other =
-        ap (shown_at key) shelf_is
-        ∙ none_elsewhere its_table.table.number key (is_seen_row m ids) (led its_table.table.number) its_own.ids (entries_of its_table) l its_own.many its_parts.entries.climbs its_parts.stay among_its (λ is. other (under_its key ∙ is))
+    all_apart : AllApart SameNumber (tables_in all_tables)
+    all_apart = subst (λ (ts : List Table). AllApart SameNumber ts) (sym (whole_are led tables)) apart
 
-    starts : StartsOnDevice content shelf leaves l
-    starts = record {
-      none = none_framed its_table.table.number its_own.ids (entries_of its_table) l among_its;
-      keys = λ key is. record { above = []; chain_is = refl; all = its_line key ∙ ap option_to_list (shown_is key is) };
-      bare = λ key other. none_is key other;
+    -- ---- where there is no history
+
+    module _ (stay : SeenStay) (ids : List ℕ) (shelf : ℕ → List Row) (shelved : IsShelf m ids led shelf leaves) where
+      shelf_is : shelf l.id ≡ seen_rows m ids (led its_table.table.number l.entry)
+      shelf_is = shelved l there ∙ ap (λ n. seen_rows m ids (led n l.entry)) table_of.2
+
+      its_line : (key : List ℕ) → leaf_under l.table key leaves ≡ Some l → line (base (leaves_content_with m ids all_tables)) l.table key ≡ option_to_list (shown_at key (shelf l.id))
+      its_line key is =
+          ap (λ n. line (base (leaves_content_with m ids all_tables)) n key) table_of.2
+          ∙ (seen_line stay m ids all_tables (whole_table led its_table) key all_apart (whole_fit led tables parted) (member_whole led its_table tables table_of.1)
+          ∙ ap option_to_list (shown_is (is_seen_row m ids) key is ∙ ap (shown_at key) (sym shelf_is)))
+
+      bare_starts : StartsOnDevice (leaves_content_with m ids all_tables) shelf (λ id key. []) leaves l
+      bare_starts = record {
+        none = none_framed its_table.table.number its_own.ids (entries_of its_table) l among_its;
+        keys = λ key is. newest_alone (line (base (leaves_content_with m ids all_tables)) l.table key) (shown_at key (shelf l.id)) (its_line key is);
+        bare = λ key other. (ap (shown_at key) shelf_is ∙ none_is (is_seen_row m ids) key other, refl);
+      }
+
+    -- ---- with a history
+
+    has_cells : (ids : List ℕ) (history : List Placed) → IsLeafOfCells led (content_with m ids all_tables history) leaves l
+    has_cells ids history = record {
+      cells = λ key is.
+          found_first (is_at l.table key) (cells_in all_tables)
+          ∙ (ap (λ n. head_of (of_key n key (cells_in all_tables))) table_of.2
+          ∙ (ap head_of (of_key_leaf key all_tables (whole_table led its_table) all_apart (whole_fit led tables parted) (member_whole led its_table tables table_of.1))
+          ∙ (first_of (shown_at key (join (leaves_led led its_table)))
+          ∙ (ap (shown_at key) (sym (filter_all (join (leaves_led led its_table))))
+          ∙ (shown_is (λ r. true) key is
+          ∙ (ap (shown_at key) (filter_all (led its_table.table.number l.entry))
+          ∙ ap (λ n. shown_at key (led n l.entry)) (sym table_of.2)))))));
+      bare = λ key other.
+          ap (λ n. shown_at key (led n l.entry)) table_of.2
+          ∙ (ap (shown_at key) (sym (filter_all (led its_table.table.number l.entry)))
+          ∙ none_is (λ r. true) key other);
+      fit = subst (λ n. AreFit (led n l.entry)) (sym table_of.2) (led_fit (led its_table.table.number) (entries_of its_table) l.entry its_parts.fit (member_entry its_table.table.number its_own.ids (entries_of its_table) l among_its));
+      known = subst (λ n. has_table (tables_in all_tables) n ≡ true) (sym table_of.2) (has (tables_in all_tables) its_table.table (subst (λ (ts : List Table). Member its_table.table ts) (sym (whole_are led tables)) (member_its its_table tables table_of.1)));
     }
 
   -- ---- the tables and their leaves
@@ -177,21 +248,31 @@ module _ (stay : SeenStay) (m : Marks) (ids : List ℕ) (led : Led) (shelf : ℕ
         first.2 ∙ ap (λ (x : Table). x.number) (sym named.2),
       )
 
-  pub begins_unread : Begins content shelf e
-  begins_unread = record {
+  pub begins_unread : (c : Content) (shelf : ℕ → List Row) (records : Records) → IsContentOf m tables c → StartsOn c shelf records e → Begins c shelf records e
+  begins_unread c shelf records is starts = record {
     fault = unread.fault;
-    stamps = unread.stamps;
-    txns = unread.txns;
+    stamps = unread.stamps ∙ (ap (λ n. record { oldest = n; stable = m.stable }) (sym is.oldest) ∙ ap (λ n. record { oldest = c.oldest; stable = n }) (sym is.stable));
+    txns = unread.txns ∙ ap (λ n. fresh (n + 1) 0) (sym is.run);
     catalog = unread.catalog;
-    tables = unread.tables_are ∙ ap (descending table_lt) (sym (whole_are led tables));
+    tables = unread.tables_are ∙ ap (descending table_lt) (sym is.tables_are);
     dir = unread.dir;
     begun = begun;
     owned = leaves_owned tables e.hub.tables.tables e.hub.dir unread.tables_are unread.added;
-    leaves = λ l there. inr (starts l there);
+    leaves = λ l there. inr (starts.leaves l there);
+    unused = starts.unused;
     frames = unread.frames;
     sessions = unread.sessions;
     systems = unread.systems;
   }
 
-pub unread_begin : SeenStay → UnreadBegin
-unread_begin stay m ids led shelf tables e apart parted unread shelved = begins_unread stay m ids led shelf tables e apart parted unread shelved
+pub unread_begin : UnreadBegin
+unread_begin m led c shelf records tables e apart parted unread is starts = begins_unread m led tables e apart parted unread c shelf records is starts
+
+pub bare_leaves_start : SeenStay → BareLeavesStart
+bare_leaves_start stay m ids led shelf tables e apart parted unread shelved = record {
+  leaves = λ l there. bare_starts m led tables e apart parted unread l there stay ids shelf shelved;
+  unused = λ id past key. refl;
+}
+
+pub leaves_have_cells : LeavesHaveCells
+leaves_have_cells m ids led history tables e apart parted unread l there = has_cells m led tables e apart parted unread l there ids history

@@ -6,7 +6,7 @@ use Rattle.std.specs.List.{Contains}
 use Rattle.std.proofs.lemmas.Bool.{cases_Bool, eq-eqb}
 use Rattle.std.proofs.lemmas.Option.{same_Some}
 use Rattle.row_page.specs.Rows.{Row, is_below}
-use Rattle.rows_shown.specs.Shows.{shown_at}
+use Rattle.reconcile.specs.Shows.{shown_at}
 use Rattle.stored.specs.Tree.{join}
 use Rattle.stored.specs.TableTree.{Climbs, Entry, Stay}
 use Rattle.tree_dir.specs.declared.leaf.Leaf.{Leaf}

@@ -9,8 +9,8 @@ use Rattle.row_page.specs.Changes.{version_in}
 use Rattle.row_page.specs.Rows.{Ascends, Row, RowFits, comes_after, is_below, key_most}
 use Rattle.row_page.proofs.Ascending.{below_trans, keys_part}
 use Rattle.leaf_rows.specs.Rows.{AreFit, version_at}
-use Rattle.rows_shown.specs.Shows.{shown_at}
-use Rattle.rows_shown.proofs.Keyed.{same_key}
+use Rattle.reconcile.specs.Shows.{shown_at}
+use Rattle.reconcile.proofs.Keyed.{same_key}
 use Rattle.stored.specs.Tree.{join}
 use Rattle.stored.specs.TableTree.{Climbs, Entry, Stay, ends_below}
 

@@ -19,13 +19,13 @@ use Rattle.stored.specs.Stored.{placed_in}
 use Rattle.leaf_rows.specs.declared.marks.Marks.{Marks}
 use Rattle.leaf_rows.specs.Contents.{is_seen_row, seen_rows}
 use Rattle.leaf_rows.specs.Rows.{AreFit}
-use Rattle.rows_shown.specs.Shows.{shown_at}
-use Rattle.rows_shown.proofs.Keyed.{of_key_rows, of_key_elsewhere, of_key_descending}
+use Rattle.reconcile.specs.Shows.{shown_at}
+use Rattle.reconcile.proofs.Keyed.{of_key_rows, of_key_elsewhere, of_key_descending}
 use Rattle.engine_start.specs.Contents.{TableLeaf, cells_in, kept_leaves, leaves_content, leaves_content_with, seen_leaves, tables_in}
 
 -- ---- what an opening keeps
 
-has : (tables : List Table) (t : Table) → Member t tables → has_table tables t.number ≡ true
+pub has : (tables : List Table) (t : Table) → Member t tables → has_table tables t.number ≡ true
 has [] t there = absurd there
 has (u ∷ tables) t (inl same) = rw (eq-eqb u.number t.number (ap (λ (x : Table). x.number) (sym same))) refl
 has (u ∷ tables) t (inr there) = or_right (u.number == t.number) (has_table tables t.number) (has tables t there)
@@ -99,7 +99,7 @@ none_elsewhere number key (l ∷ leaves) apart =
 abbrev pub AllFit : List TableLeaf → Type 0
 AllFit leaves = AllByRecursion (λ (l : TableLeaf). AreFit l.rows) leaves
 
-of_key_leaf : (key : List ℕ) (leaves : List TableLeaf) (l : TableLeaf) → AllApart SameNumber (tables_in leaves) → AllFit leaves → Member l leaves → of_key l.table.number key (cells_in leaves) ≡ option_to_list (shown_at key l.rows)
+pub of_key_leaf : (key : List ℕ) (leaves : List TableLeaf) (l : TableLeaf) → AllApart SameNumber (tables_in leaves) → AllFit leaves → Member l leaves → of_key l.table.number key (cells_in leaves) ≡ option_to_list (shown_at key l.rows)
 of_key_leaf key [] l apart fit there = absurd there
 of_key_leaf key (x ∷ leaves) l apart fit (inl same) =
     subst (λ (y : TableLeaf). of_key y.table.number key (cells_in (x ∷ leaves)) ≡ option_to_list (shown_at key y.rows)) (sym same)

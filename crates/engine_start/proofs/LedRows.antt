@@ -6,7 +6,7 @@ use Rattle.std.proofs.lemmas.Bool.{eq-eqb, ne_eqb}
 use Rattle.kv_model.specs.Holds.{Member}
 use Rattle.row_page.specs.Rows.{Row, is_below}
 use Rattle.row_page.proofs.Ascending.{below_differs, below_trans}
-use Rattle.rows_shown.proofs.Keyed.{key_self}
+use Rattle.reconcile.proofs.Keyed.{key_self}
 use Rattle.leaf_rows.specs.Rows.{AreFit}
 use Rattle.stored.specs.Tree.{AllBear, AllLead, Lead, bottom, join}
 use Rattle.stored.specs.TableTree.{Climbs, Entry, Stay, first_key, root_entry, table_kind}

@@ -33,7 +33,11 @@ leaves_content_with m ids leaves = record {
   records = [];
 }
 
--- the same, where each id had ended
+-- the same, with the records of a history
+abbrev pub content_with : Marks → List ℕ → List TableLeaf → List Placed → Content
+content_with m ids leaves history = record (leaves_content_with m ids leaves) { records = history }
+
+-- without a history, where each id had ended
 abbrev pub leaves_content : Marks → List TableLeaf → Content
 leaves_content m leaves = leaves_content_with m [] leaves
 

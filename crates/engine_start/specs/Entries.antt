@@ -1,7 +1,7 @@
 -- What a device holds, by the entries of the leaves of its tables, and an engine on them that has read no leaf.
-use Rattle.std.specs.Prelude.{◌≡◌, ℕ, ◌+◌, ◌==◌, List, [], ◌∷◌, length, map, reverse, Option, Some, None, bytes_eq, if◌then◌else◌}
+use Rattle.std.specs.Prelude.{◌≡◌, ℕ, ◌+◌, ◌≤◌, ◌==◌, List, [], ◌∷◌, length, map, reverse, Option, Some, None, bytes_eq, if◌then◌else◌}
 use Rattle.std.specs.List.{AllByRecursion, Contains}
-use Rattle.kv_model.specs.Content.{descending, table_lt}
+use Rattle.kv_model.specs.Content.{Content, descending, table_lt}
 use Rattle.kv_model.specs.History.{Table}
 use Rattle.row_page.specs.Rows.{Row}
 use Rattle.leaf_rows.specs.declared.marks.Marks.{Marks}
@@ -15,6 +15,8 @@ use Rattle.txn_table.specs.Tabled.{fresh}
 use Rattle.catalog.specs.Known.{AreTables}
 use Rattle.engine_world.specs.Leaves.{FramesStand}
 use Rattle.engine_world.specs.Stands.{Engine}
+use Rattle.engine_world.specs.Systems.{StartsOnDevice}
+use Rattle.engine_world.specs.Worlds.{Records}
 use Rattle.engine_start.specs.Contents.{TableLeaf}
 use Rattle.engine_start.specs.declared.table_entries.TableEntries.{TableEntries}
 
@@ -68,6 +70,18 @@ pub record IsUnread (m : Marks) (tables : List TableEntries) (e : Engine) : Type
   pub frames : FramesStand e.pieces e.states
   pub sessions : e.sessions ≡ []
   pub systems : map (λ x. None) e.systems ≡ e.systems
+
+-- the content has these marks and these tables
+pub record IsContentOf (m : Marks) (tables : List TableEntries) (c : Content) : Type 0 where
+  pub run : c.run ≡ m.run
+  pub oldest : c.oldest ≡ m.oldest
+  pub stable : c.stable ≡ m.stable
+  pub tables_are : c.tables ≡ tables_of tables
+
+-- each leaf starts on the device with what the content keeps of it, and the history keeps nothing else
+pub record StartsOn (c : Content) (shelf : ℕ → List Row) (records : Records) (e : Engine) : Type 0 where
+  pub leaves : (l : Leaf) → Contains e.hub.dir.leaves l → StartsOnDevice c shelf records e.hub.dir.leaves l
+  pub unused : (id : ℕ) → e.hub.dir.next ≤ id → (key : List ℕ) → records id key ≡ []
 
 -- ---- such a shelf
 

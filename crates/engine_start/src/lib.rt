@@ -18,6 +18,6 @@ pub use laws::seen_stay;
 pub use opening::start;
 pub use table_entries::TableEntries;
 pub use unread::{
-    borne_are_part, leaves_are_added, leaves_are_led, shelves_are, trees_are_borne, unread_begin,
-    unread_stand,
+    bare_leaves_start, borne_are_part, leaves_are_added, leaves_are_led, leaves_have_cells,
+    shelves_are, trees_are_borne, unread_begin, unread_stand,
 };

@@ -4,15 +4,17 @@ ghost use Rattle.std.specs.Prelude.{◌≡◌, ◌<◌, ◌+◌, ◌-◌, ◌^�
 ghost use Rattle.std.specs.List.{AllByRecursion};
 ghost use Rattle.limits.specs.declared.TheConstants.{TABLES_MAX};
 ghost use Rattle.kv_model.specs.Allowed.{StampsFit};
+ghost use Rattle.kv_model.specs.Content.{Content};
+ghost use Rattle.kv_model.specs.Regular.{IsRegular};
 ghost use Rattle.row_page.specs.Rows.{Row};
 ghost use Rattle.stored.specs.TableTree.{Climbs};
 ghost use Rattle.catalog.specs.Opens.{AreRecorded};
 ghost use Rattle.engine_world.specs.Stands.{Stands};
 ghost use Rattle.engine_world.specs.Systems.{first_world};
+ghost use Rattle.engine_world.specs.Worlds.{Records};
 ghost use Rattle.engine.specs.Openings.{IsOpened};
 ghost use Rattle.engine_start.specs.declared.table_entries.TableEntries.{TableEntries};
-ghost use Rattle.engine_start.specs.Contents.{leaves_content_with};
-ghost use Rattle.engine_start.specs.Entries.{IsParted, IsShelf, IsUnread, Led, entries_of, tables_of, whole_tables};
+ghost use Rattle.engine_start.specs.Entries.{IsContentOf, IsParted, IsUnread, Led, StartsOn, entries_of, tables_of};
 
 use crate::parting::part;
 use crate::table_entries::TableEntries;
@@ -42,7 +44,7 @@ pub fn start(
     ensures unread { IfOk result (IsUnread marks tables.items) }
     ensures opened { IfOk result (λ l. IsOpened (marks.run + 1) marks.oldest marks.stable l.hub.tables l.hub.dir l) }
     ensures next { IfOk result (λ l. l.hub.tables.next ≡ max next_table 1) }
-    ensures stands { (ids : List ℕ) (led : Led) (shelf : ℕ → List Row) → AllByRecursion (IsParted led) tables.items → IfOk result (λ l. IsShelf marks ids led shelf l.hub.dir.leaves → Stands l (first_world (leaves_content_with marks ids (whole_tables led tables.items)) shelf l)) }
+    ensures stands { (led : Led) (c : Content) (shelf : ℕ → List Row) (records : Records) → AllByRecursion (IsParted led) tables.items → IsContentOf marks tables.items c → IsRegular c → IfOk result (λ l. StartsOn c shelf records l → Stands l (first_world c shelf records l)) }
 {
     unread_stand();
     let parted = part(alloc, tables)?;

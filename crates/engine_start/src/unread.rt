@@ -1,18 +1,16 @@
 //! Laws of an engine that has read no leaf, on what a device has.
 
-ghost use Rattle.engine_start.specs.EntryLaws.{BorneArePart, LeavesAreAdded, LeavesAreLed, ShelvesAre, TreesAreBorne, UnreadBegin, UnreadStand};
+ghost use Rattle.engine_start.specs.EntryLaws.{BareLeavesStart, BorneArePart, LeavesAreAdded, LeavesAreLed, LeavesHaveCells, ShelvesAre, TreesAreBorne, UnreadBegin, UnreadStand};
 
 use crate::laws::seen_stay;
 use engine_world::engines_start;
 use tree_dir::ids_name;
 
-/// An engine on tables of which no leaf was read begins on what the device has, where its shelf has
-/// what an opening keeps of each leaf.
+/// An engine on tables of which no leaf was read begins on a content with their marks, where each leaf
+/// starts on the device with what the content keeps of it.
 pub fn unread_begin()
     ensures { UnreadBegin }
-{
-    seen_stay();
-}
+{}
 
 /// And it stands for the world with which that begins.
 pub fn unread_stand()
@@ -21,6 +19,18 @@ pub fn unread_stand()
     unread_begin();
     engines_start();
 }
+
+/// Where the device has no history, leaves start with what an opening keeps of their rows.
+pub fn bare_leaves_start()
+    ensures { BareLeavesStart }
+{
+    seen_stay();
+}
+
+/// The cells of keys are the rows of the leaves in which they lie.
+pub fn leaves_have_cells()
+    ensures { LeavesHaveCells }
+{}
 
 /// There is a shelf of the leaves of a directory.
 pub fn shelves_are()

@@ -1,6 +1,6 @@
 -- A leaf without updates.
 use Rattle.std.proofs.Common.{◌≡◌, [], subst, sym}
-use Rattle.leaf_capture.specs.Capture.{ChainsFit}
+use Rattle.reconcile.specs.Capture.{ChainsFit}
 use Rattle.leaf_frame.specs.Leaf.{HeldLeaf}
 
 pub bare_fits : (leaf : HeldLeaf) → leaf.chains ≡ [] → ChainsFit leaf.chains

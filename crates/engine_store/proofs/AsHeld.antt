@@ -18,13 +18,13 @@ module _ {D : Type 0} (g : Ghosts D) (start_disk : D) (w : World) (r : Records) 
   a = other_records r w
 
   pub checkpoints_as : (result : Result (Unit {0}) Refusal) → Checkpoints g start_disk a first made s s' before after result → Checkpoints g start_disk w first made s s' before after result
-  checkpoints_as result (shelf, x) = (shelf, record { next = x.next; now = x.now; behind = x.behind; takes = x.takes; installs = x.installs; held = x.held; plain = x.plain; none = x.none })
+  checkpoints_as result (shelf, x) = (shelf, record { next = x.next; now = x.now; behind = x.behind; takes = x.takes; installs = x.installs; held = x.held; none = x.none })
 
   pub shuts_as : (result : Result (Unit {0}) Refusal) → Shuts g start_disk a first made s s' before after result → Shuts g start_disk w first made s s' before after result
-  shuts_as result x = record { next = x.next; now = x.now; behind = x.behind; takes = x.takes; installs = x.installs; held = x.held; plain = x.plain; none = x.none }
+  shuts_as result x = record { next = x.next; now = x.now; behind = x.behind; takes = x.takes; installs = x.installs; held = x.held; none = x.none }
 
   pub reopens_as : (result : Result (Unit {0}) Refusal) → MayReopen g start_disk a first made s s' before after result → MayReopen g start_disk w first made s s' before after result
-  reopens_as (Ok done) x = record { content = x.content; reads = x.reads; one = x.one; later = x.later; seen = x.seen; capacity = x.capacity; shelf = x.shelf; held = x.held; plain = x.plain; none = x.none }
+  reopens_as (Ok done) x = record { content = x.content; reads = x.reads; one = x.one; later = x.later; seen = x.seen; capacity = x.capacity; shelf = x.shelf; held = x.held; none = x.none }
   reopens_as (Err refusal) x = record { why = x.why; later = x.later; seen = x.seen; capacity = x.capacity; held = x.held; none = x.none }
 
   -- ---- leaves that are evicted
@@ -45,7 +45,7 @@ module _ {D : Type 0} (g : Ghosts D) (start_disk : D) (w : World) (r : Records) 
   -- ---- leaves that are written out
 
   on_as : (shelf : ℕ → List Row) (next : Machine) → WroteOn g start_disk a first made s s' before after shelf next → WroteOn g start_disk w first made s s' before after shelf next
-  on_as shelf next x = record { later = x.later; capacity = x.capacity; held = x.held; plain = x.plain }
+  on_as shelf next x = record { later = x.later; capacity = x.capacity; held = x.held }
 
   pub up_as : WroteUp g start_disk a first made s s' before after → WroteUp g start_disk w first made s s' before after
   up_as x = record { shelf = x.shelf; wrote = on_as x.shelf w.machine x.wrote; keeps = x.keeps }

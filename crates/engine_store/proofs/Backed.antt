@@ -1,5 +1,5 @@
 -- What holds between two calls goes on over a call of an actor, by which the disk is at most looked at.
-use Rattle.std.proofs.Common.{◌≡◌, ◌∙◌, ◌≤◌, ℕ, List, [], ◌∷◌, length, Option, refl, sym, subst, inl, inr, arith}
+use Rattle.std.proofs.Common.{◌≡◌, ◌∙◌, ◌≤◌, ℕ, List, [], ◌∷◌, length, Option, ap, refl, sym, subst, inl, inr, arith}
 use Rattle.disk_model.specs.Crash.{Each, Looked}
 use Rattle.disk_model.specs.Disk.{NoMore}
 use Rattle.disk_model.specs.declared.disk.Disk.{Ghosts}
@@ -7,6 +7,7 @@ use Rattle.extent_list.specs.Space.{end_of}
 use Rattle.catalog.specs.Known.{AreTables}
 use Rattle.kv_model.specs.Content.{OpensAs}
 use Rattle.kv_model.specs.Machine.{Completed}
+use Rattle.row_page.specs.Rows.{Row}
 use Rattle.stored.specs.Stored.{Stored}
 use Rattle.checkpoint_core.specs.Stands.{HasStill}
 use Rattle.device_leaf.specs.Closings.{content_was}
@@ -47,6 +48,7 @@ stands_looked bytes seen was images hub g old same fewer on = record {
   long = subst (λ (l : List ℕ). 8192 ≤ length l) (sym same) on.long;
   within = subst (λ (l : List ℕ). end_of g.place.blocks.space ≤ length l) (sym same) on.within;
   roots = on.roots;
+  history = on.history;
   written = on.written;
   since = on.since;
   led = on.led;
@@ -93,6 +95,7 @@ module _ {D : Type 0} (g : Ghosts D) (s s' : Store) (before after : D) (looked :
     stands = stands;
     idle = on.keeps.checkpoint ∙ held.idle;
     kept = kept;
+    bare = λ id late. ap (λ (shelf : ℕ → List Row). shelf id) on.shelf ∙ held.bare id (let ids = goes.dir.ids in omega (arith, late, ids));
     on = λ up.
         let x = held.on (sym on.keeps.fault ∙ up) in
         let m = moved x.old w later held.stands.dir stands.dir stands.catalog on.machine on.shelf x.on x.follows x.since in

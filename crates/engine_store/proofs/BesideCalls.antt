@@ -109,6 +109,7 @@ module _ {D : Type 0} (g : Ghosts D) (start disk : D) (s : Store) (first : Compl
     stands = again-back s.engine v session x.stands;
     idle = x.idle;
     kept = x.kept;
+    bare = x.bare;
     on = λ up. let o = x.on up in record {
       old = o.old;
       on = o.on;

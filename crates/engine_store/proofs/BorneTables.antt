@@ -9,14 +9,15 @@ use Rattle.kv_model.specs.History.{Placed, Table}
 use Rattle.row_page.specs.Rows.{Row}
 use Rattle.stored.specs.Records.{Record, TableRoot}
 use Rattle.stored.specs.Stored.{content_of, cells_in as stored_cells, placed_in, tables_of as record_tables}
+use Rattle.stored.specs.HistoryTree.{HistoryRecord, HistoryTree, record_in}
 use Rattle.stored.specs.Tree.{bottom, join}
 use Rattle.stored.specs.TableTree.{Climbs, Entry, TableTree, root_entry}
 use Rattle.tree_open.specs.declared.place.Upper.{Upper}
-use Rattle.recover_open.specs.Bare.{AllClimb, HaveTrees, bare_stored, marks_of}
+use Rattle.recover_open.specs.Bare.{AllClimb, HaveTrees, marks_of, stored_with}
 use Rattle.recover_open.specs.Leaves.{AreLeaves}
 use Rattle.recover_open.proofs.TreeLeaves.{tree_leaves}
 use Rattle.engine_start.specs.declared.table_entries.TableEntries.{TableEntries}
-use Rattle.engine_start.specs.Contents.{cells_in, leaves_content_with, tables_in}
+use Rattle.engine_start.specs.Contents.{cells_in, content_with, tables_in}
 use Rattle.engine_start.specs.Entries.{AllBorne, AreBorne, Led, entries_of, joined_tables, leaves_led, tables_of}
 use Rattle.engine_start.proofs.LedRows.{tree_borne}
 use Rattle.engine_store.specs.Tables.{AreWithEntries, IsWithEntries}
@@ -116,22 +117,22 @@ cells_joined (t ∷ both) (r ∷ tables) (u ∷ uppers) (tree ∷ trees) with =
     ap (λ (x : Table). placed_in x.number (join tree.leaves) ++ cells_in (joined_tables both (leaves_in trees))) with.0.table ∙ ap (λ (c : List Placed). placed_in r.table.number (join tree.leaves) ++ c) (cells_joined both tables uppers trees with.1)
 
 -- as the content of a device
-abbrev content_with : Record → List Table → List Placed → Content
-content_with r tables cells = record {
+abbrev recorded : Record → List Table → List Placed → HistoryTree → Content
+recorded r tables cells history = record {
   run = r.run;
   oldest = r.oldest;
   stable = r.stable;
   snapshot = r.snapshot;
   tables = tables;
   cells = cells;
-  records = [];
+  records = map {A = HistoryRecord} record_in (join history.leaves);
 }
 
-pub content_joined : (slot : Slot) (r : Record) (both : List TableEntries) (uppers : List Upper) (trees : List TableTree) → AreWithEntries both r.tables uppers → length trees ≡ length r.tables
-    → leaves_content_with (marks_of r) r.snapshot.ids (joined_tables both (leaves_in trees)) ≡ content_of (bare_stored slot r trees)
-content_joined slot r both uppers trees with many =
-    ap (λ (l : List Table). content_with r l (cells_in (joined_tables both (leaves_in trees)))) (tables_joined both r.tables uppers trees with many)
-    ∙ ap (λ (c : List Placed). content_with r (record_tables r.tables) c) (cells_joined both r.tables uppers trees with)
+pub content_joined : (slot : Slot) (r : Record) (both : List TableEntries) (uppers : List Upper) (trees : List TableTree) (history : HistoryTree) → AreWithEntries both r.tables uppers → length trees ≡ length r.tables
+    → content_with (marks_of r) r.snapshot.ids (joined_tables both (leaves_in trees)) (map {A = HistoryRecord} record_in (join history.leaves)) ≡ content_of (stored_with slot r trees history)
+content_joined slot r both uppers trees history with many =
+    ap (λ (l : List Table). recorded r l (cells_in (joined_tables both (leaves_in trees))) history) (tables_joined both r.tables uppers trees with many)
+    ∙ ap (λ (c : List Placed). recorded r (record_tables r.tables) c history) (cells_joined both r.tables uppers trees with)
 
 pub have_many : (bytes : List ℕ) (tables : List TableRoot) (trees : List TableTree) → HaveTrees bytes tables trees → length trees ≡ length tables
 have_many bytes [] [] have = refl

@@ -29,27 +29,42 @@ free_of w may = (told_free w.machine.fault (busy_in w) may).1
 
 -- ---- what the rolling back leaves
 
-left_by : (m : Machine) (session : ℕ) (t : Transaction) (p : Phase) → (left p m session t).checkpoint ≡ m.checkpoint
-left_by m session t (Prepared stamp) = refl
-left_by m session t Resolving = refl
-left_by m session t Running = refl
-left_by m session t Failed = refl
-left_by m session t Leaving = refl
+-- what it leaves as it was
+pub record StaysSo (m next : Machine) : Type 0 where
+  pub checkpoint : next.checkpoint ≡ m.checkpoint
+  pub completed : next.completed ≡ m.completed
+  pub fault : next.fault ≡ m.fault
 
-starts_leaving : (m : Machine) (session : ℕ) → (after m (StartLeaving session)).checkpoint ≡ m.checkpoint
+so : (m : Machine) → StaysSo m m
+so m = record { checkpoint = refl; completed = refl; fault = refl }
+
+left_by : (m : Machine) (session : ℕ) (t : Transaction) (p : Phase) → StaysSo m (left p m session t)
+left_by m session t (Prepared stamp) = record { checkpoint = refl; completed = refl; fault = refl }
+left_by m session t Resolving = record { checkpoint = refl; completed = refl; fault = refl }
+left_by m session t Running = record { checkpoint = refl; completed = refl; fault = refl }
+left_by m session t Failed = record { checkpoint = refl; completed = refl; fault = refl }
+left_by m session t Leaving = record { checkpoint = refl; completed = refl; fault = refl }
+
+starts_leaving : (m : Machine) (session : ℕ) → StaysSo m (after m (StartLeaving session))
 starts_leaving m session = by_there (transaction_of m session) where
-  by_there : (o : Option Transaction) → (of_some m (λ t. left t.phase m session t) o).checkpoint ≡ m.checkpoint
-  by_there None = refl
+  by_there : (o : Option Transaction) → StaysSo m (of_some m (λ t. left t.phase m session t) o)
+  by_there None = so m
   by_there (Some t) = left_by m session t t.phase
 
-rolls_by : (m : Machine) (at : ℕ) (sessions : List (Option Transaction)) → (after_all m (rolling_back at sessions)).checkpoint ≡ m.checkpoint
-rolls_by m at [] = refl
+rolls_by : (m : Machine) (at : ℕ) (sessions : List (Option Transaction)) → StaysSo m (after_all m (rolling_back at sessions))
+rolls_by m at [] = so m
 rolls_by m at (None ∷ later) = rolls_by m (at + 1) later
-rolls_by m at (Some t ∷ later) = rolls_by (after (after m (StartLeaving at)) (EndTransaction at)) (at + 1) later ∙ starts_leaving m at
+rolls_by m at (Some t ∷ later) =
+    let rest = rolls_by (after (after m (StartLeaving at)) (EndTransaction at)) (at + 1) later in
+    let first = starts_leaving m at in
+    record { checkpoint = rest.checkpoint ∙ first.checkpoint; completed = rest.completed ∙ first.completed; fault = rest.fault ∙ first.fault }
+
+pub stays_rolled : (m : Machine) → StaysSo m (rolled_back m)
+stays_rolled m = rolls_by m 0 m.sessions
 
 -- the checkpoint that runs
 pub checkpoint_rolled : (m : Machine) → (rolled_back m).checkpoint ≡ m.checkpoint
-checkpoint_rolled m = rolls_by m 0 m.sessions
+checkpoint_rolled m = (stays_rolled m).checkpoint
 
 -- ---- where a close may come
 

@@ -30,7 +30,8 @@ use Rattle.engine_store.specs.GoneOut.{GoOut, IsWhole, all_out}
 use Rattle.engine_store.specs.Held.{IsHeld, IsHeldIn}
 use Rattle.engine_store.specs.Keeping.{with_kept}
 use Rattle.engine_store.specs.Opened.{IsReady}
-use Rattle.engine_store.proofs.AllOut.{out_on}
+use Rattle.engine_store.proofs.AllOut.{hub_out, out_on}
+use Rattle.engine_store.proofs.HubsGo.{goes_same}
 use Rattle.engine_store.proofs.KeptLeaves.{named_there}
 use Rattle.engine_store.proofs.Telling.{told_on}
 
@@ -110,6 +111,7 @@ module _ {D : Type 0} (g : Ghosts D) where
       stands = out.stands w held.stands;
       idle = held.idle;
       kept = subst (λ (x : Ground). KeepsThese w x.kept) (sym out.ground) held.kept;
+      bare = λ id late. held.bare id (let ids = (out.goes s.engine.hub (hub_out s.engine.hub s.engine.hub (goes_same s.engine.hub held.stands.owned))).dir.ids in omega (arith, late, ids));
       on = λ up.
           let x = held.on up in
           let y = out.on disk x.old x.on in

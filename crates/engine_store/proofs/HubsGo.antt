@@ -4,7 +4,14 @@ use Rattle.std.specs.Prelude.{slice_get}
 use Rattle.std.specs.List.{Contains}
 use Rattle.kv_model.specs.History.{Table}
 use Rattle.row_page.specs.Rows.{Row}
+use Rattle.kv_model.specs.Holds.{Descends}
+use Rattle.kv_model.specs.Ordered.{Older}
+use Rattle.leaf_rows.specs.Contents.{seen_rows}
 use Rattle.leaf_rows.specs.declared.marks.Marks.{Marks}
+use Rattle.reconcile.specs.declared.image.Moved.{Moved}
+use Rattle.reconcile.specs.Moving.{versions_in}
+use Rattle.evict_step.specs.Kept.{Lists, list_of, records_in}
+use Rattle.kept_open.specs.Opening.{opened_rows}
 use Rattle.stored.specs.TableTree.{Entry}
 use Rattle.disk_model.specs.Crash.{Looked}
 use Rattle.disk_model.specs.declared.disk.Disk.{Ghosts}
@@ -23,16 +30,26 @@ use Rattle.engine_store.proofs.LeavesGo.{leaf_was, leaves_same, leaves_then, low
 
 -- ---- what the device has of them
 
-pub kept_then : (bytes : List ℕ) (d n : Directory) (marks : Marks) (ids : List ℕ) (shelf : ℕ → List Row) → LeavesGoOn d.leaves n.leaves → ((l : Leaf) → Contains d.leaves l → IsLeafKept bytes d marks ids shelf l) → (l : Leaf) → Contains n.leaves l → IsLeafKept bytes n marks ids shelf l
-kept_then bytes d n marks ids shelf goes kept l there =
+pub kept_then : (bytes : List ℕ) (d n : Directory) (marks : Marks) (ids : List ℕ) (lists : Lists) (shelf : ℕ → List Row) → LeavesGoOn d.leaves n.leaves → ((l : Leaf) → Contains d.leaves l → IsLeafKept bytes d marks ids lists shelf l) → (l : Leaf) → Contains n.leaves l → IsLeafKept bytes n marks ids lists shelf l
+kept_then bytes d n marks ids lists shelf goes kept l there =
     let was = leaf_was d.leaves n.leaves l goes there in
     let k = kept was.0 was.1 in
     record {
       rows = k.rows;
       under = subst (λ (e : Entry). IsUnder bytes e (low_behind l.id n.leaves) k.rows) (sym was.2.entry)
           (subst (λ (low : Option (List ℕ)). IsUnder bytes was.0.entry low k.rows) (ap (λ (i : ℕ). low_behind i d.leaves) (sym was.2.id) ∙ sym (low_goes d.leaves n.leaves l.id goes)) k.under);
-      kept = ap shelf was.2.id ∙ k.kept;
+      opened = ap shelf was.2.id ∙ (k.opened ∙ ap (λ (id : ℕ). opened_rows (seen_rows marks ids k.rows) (list_of lists id)) (sym was.2.id));
+      falls = λ key. subst (λ (id : ℕ). Descends Older (records_in lists id key)) (sym was.2.id) (k.falls key);
     }
+
+-- so it is where the same is kept of it
+pub relisted : (bytes : List ℕ) (d : Directory) (marks : Marks) (ids : List ℕ) (lists now : Lists) (shelf : ℕ → List Row) (l : Leaf) → list_of now l.id ≡ list_of lists l.id → IsLeafKept bytes d marks ids lists shelf l → IsLeafKept bytes d marks ids now shelf l
+relisted bytes d marks ids lists now shelf l same k = record {
+  rows = k.rows;
+  under = k.under;
+  opened = k.opened ∙ ap (λ (moved : List Moved). opened_rows (seen_rows marks ids k.rows) moved) (sym same);
+  falls = λ key. subst (λ (moved : List Moved). Descends Older (versions_in key moved)) (sym same) (k.falls key);
+}
 
 pub spoils_back : (bytes : List ℕ) (d n : Directory) (id at want found : ℕ) → LeavesGoOn d.leaves n.leaves → LeafSpoils bytes n id at want found → LeafSpoils bytes d id at want found
 spoils_back bytes d n id at want found goes spoils =

@@ -3,10 +3,14 @@ use Rattle.std.proofs.Common.{◌≡◌, ℕ, List, [], ◌∷◌, length, Optio
 use Rattle.std.specs.Prelude.{◌==◌}
 use Rattle.std.specs.List.{AllByRecursion, Contains}
 use Rattle.std.proofs.lemmas.Bool.{cases_Bool, eqb-true}
-use Rattle.kv_model.specs.Holds.{Member}
+use Rattle.kv_model.specs.Holds.{Descends, Member}
 use Rattle.kv_model.specs.Regular.{AllApart, SameNumber}
 use Rattle.row_page.specs.Rows.{Row}
+use Rattle.kv_model.specs.Ordered.{Older}
+use Rattle.leaf_rows.specs.Contents.{seen_rows}
 use Rattle.leaf_rows.specs.declared.marks.Marks.{Marks}
+use Rattle.evict_step.specs.Kept.{Lists, list_of, records_in}
+use Rattle.kept_open.specs.Opening.{opened_rows}
 use Rattle.stored.specs.Records.{TableRoot}
 use Rattle.stored.specs.TableTree.{Entry}
 use Rattle.tree_open.specs.declared.place.Upper.{Upper}
@@ -15,7 +19,7 @@ use Rattle.tree_dir.specs.Leaves.{Directory, IsDirectory, leaf_named, leaves_of,
 use Rattle.recover_open.specs.Damage.{EntrySpoils}
 use Rattle.recover_open.specs.Leaves.{AreLeaves, IsUnder}
 use Rattle.engine_start.specs.declared.table_entries.TableEntries.{TableEntries}
-use Rattle.engine_start.specs.Entries.{AreAdded, IsShelf, Led, entries_of, leaves_led, tables_of}
+use Rattle.engine_start.specs.Entries.{AreAdded, Led, entries_of, leaves_led, tables_of}
 use Rattle.engine_start.proofs.TablesAdded.{leaf_added, own_added}
 use Rattle.ckpt_step.proofs.Members.{all_of, none_some, some_same}
 use Rattle.ckpt_step.proofs.TableLeaves.{contains_of}
@@ -85,5 +89,6 @@ module _ (both : List TableEntries) (d : Directory) (is : IsDirectory d) (apart 
         subst (λ (k : ℕ). IsUnder bytes l.entry (low_behind l.id d.leaves) (led k l.entry)) (sym its.2)
         (under_in d is bytes (led n) n (entries_of its.0) (own_entries its.0 its.1) (all_of (λ (t : TableEntries). AreLeaves bytes (entries_of t) None (leaves_led led t)) both its.0 leaves its.1) l there its.2)
 
-    pub leaf_kept : (marks : Marks) (ids : List ℕ) (shelf : ℕ → List Row) → IsShelf marks ids led shelf d.leaves → (l : Leaf) → Contains d.leaves l → IsLeafKept bytes d marks ids shelf l
-    leaf_kept marks ids shelf shelved l there = record { rows = led l.table l.entry; under = leaf_under l there; kept = shelved l there }
+    abbrev pub leaf_kept : (marks : Marks) (ids : List ℕ) (lists : Lists) (shelf : ℕ → List Row) → ((l : Leaf) → Contains d.leaves l → shelf l.id ≡ opened_rows (seen_rows marks ids (led l.table l.entry)) (list_of lists l.id)) → ((l : Leaf) → Contains d.leaves l → (key : List ℕ) → Descends Older (records_in lists l.id key))
+        → (l : Leaf) → Contains d.leaves l → IsLeafKept bytes d marks ids lists shelf l
+    leaf_kept marks ids lists shelf shelved falls l there = record { rows = led l.table l.entry; under = leaf_under l there; opened = shelved l there; falls = falls l there }

@@ -13,7 +13,7 @@ pub mod AllOut
 pub mod SpoiltLeaves
 pub mod Bases
 pub mod LoadedPages
-pub mod Bare
+pub mod OpenedLeaves
 pub mod MarkedIds
 pub mod PlacedTrees
 pub mod Over
@@ -22,6 +22,7 @@ pub mod OpenedParts
 pub mod OpenedRoots
 pub mod OpenedFollows
 pub mod OpenedEngine
+pub mod OpenedShelf
 pub mod MarkedParts
 pub mod Nothing
 pub mod ReadyAbove
@@ -55,6 +56,7 @@ pub mod Finishing
 pub mod SystemCalls
 pub mod Stepping
 pub mod KeptAnswers
+pub mod CutShelves
 pub mod MakingRoom
 pub mod EvictingKeys
 pub mod BesideSteps

@@ -1,7 +1,7 @@
 -- The page of a leaf that was read: what an opening keeps of the rows that the device has, or all of them.
 use Rattle.std.proofs.Common.{◌≡◌, ◌≤◌, ◌^◌, ℕ, List, [], ◌∷◌, Some, refl, sym, ap, subst, ◌∙◌, arith}
 use Rattle.std.specs.Prelude.{true, IsTrue, nat_lt}
-use Rattle.std.specs.List.{AllByRecursion, Contains}
+use Rattle.std.specs.List.{AllByRecursion}
 use Rattle.std.proofs.lemmas.Bool.{lt-ltb}
 use Rattle.row_page.specs.Rows.{Row, RowFits, key_most}
 use Rattle.leaf_frame.specs.Leaf.{HeldLeaf}
@@ -14,8 +14,6 @@ use Rattle.tree_dir.specs.declared.leaf.Leaf.{Leaf}
 use Rattle.tree_dir.specs.Leaves.{Directory, leaf_named}
 use Rattle.ckpt_step.proofs.Members.{some_same}
 use Rattle.engine_store.specs.Loads.{IsReadAs}
-use Rattle.engine_store.specs.Marked.{IsLeafKept}
-use Rattle.engine_store.proofs.KeptLeaves.{named_there}
 
 -- by marks of a later run that ask no stamp all is kept
 all_seen : (m : Marks) (ids : List ℕ) (rows : List Row) → 2 ^ 62 ≤ m.run → m.stable ≡ 0 → AllByRecursion (λ (r : Row). RowFits [] key_most r) rows → AllByRecursion (λ (r : Row). IsTrue (is_seen_row m ids r)) rows
@@ -33,11 +31,3 @@ pub page_kept : OneIsLoaded → (bytes : List ℕ) (dir : Directory) (id : ℕ) 
 page_kept one bytes dir id marks ids held l rows read there leaf =
     let same : l ≡ read.leaf = some_same (sym there ∙ read.there) in
     ap (λ (h : HeldLeaf). h.page) (one bytes read.leaf.entry _ marks ids held rows read.loaded (subst (λ (x : Leaf). LeafIs bytes x.entry.link rows) same leaf))
-
--- ---- as an opening keeps it
-
-pub page_shelf : OneIsLoaded → (bytes : List ℕ) (dir : Directory) (id : ℕ) (marks : Marks) (ids : List ℕ) (held : HeldLeaf) (shelf : ℕ → List Row) → IsReadAs bytes dir id marks ids held → ((l : Leaf) → Contains dir.leaves l → IsLeafKept bytes dir marks ids shelf l) → held.page ≡ shelf id
-page_shelf one bytes dir id marks ids held shelf read kept =
-    let there = named_there id dir.leaves read.leaf read.there in
-    let its = kept read.leaf there.0 in
-    page_kept one bytes dir id marks ids held read.leaf its.rows read read.there its.under.leaf ∙ (sym its.kept ∙ ap shelf there.1)

@@ -1,8 +1,11 @@
 -- What the eviction of leaves leaves of what holds between two calls.
 use Rattle.std.proofs.Common.{◌≡◌, ◌⊎◌, ◌≤◌, ◌∙◌, ℕ, List, [], ◌∷◌, Option, Some, None, Result, Ok, Err, refl, sym, ap, subst, inl, inr, arith}
-use Rattle.std.specs.Prelude.{Bool, true, false, ◌||◌}
+use Rattle.std.specs.Prelude.{◌==◌, ◌<◌, Bool, true, false, ◌||◌, if◌then◌else◌}
+use Rattle.std.specs.List.{Contains}
+use Rattle.std.proofs.lemmas.Bool.{ne_eqb}
 use Rattle.failure.specs.Counts.{Rose}
 use Rattle.failure.specs.declared.Fault.{Fault}
+use Rattle.device_layout.specs.declared.link.Link.{Link}
 use Rattle.disk_model.specs.Crash.{LeavesOnly, SameDisk}
 use Rattle.disk_model.specs.declared.disk.Disk.{Ghosts}
 use Rattle.wt_code.specs.declared.refusals.Refusal.{Refusal}
@@ -13,12 +16,15 @@ use Rattle.stored.specs.Stored.{Stored}
 use Rattle.checkpoint_core.specs.Finishes.{IsOld}
 use Rattle.checkpoint_core.specs.Stands.{HasStill}
 use Rattle.reconcile.specs.Moving.{versions_in}
-use Rattle.engine_world.specs.Evicting.{with_rows}
+use Rattle.tree_dir.specs.declared.leaf.Leaf.{Leaf}
+use Rattle.call_turns.proofs.Walks.{named-is}
+use Rattle.engine.proofs.LeavesCome.{named-there}
+use Rattle.engine_world.specs.Evicting.{led_out, with_rows}
 use Rattle.engine_world.specs.GoingOut.{with_again}
 use Rattle.engine_world.specs.Stands.{Engine, Stands}
 use Rattle.engine_world.specs.Systems.{DownsGo}
 use Rattle.engine_world.specs.Worlds.{Records, World, with_records}
-use Rattle.engine.specs.Evictions.{MayBeEvicted}
+use Rattle.engine.specs.Evictions.{HasBeenEvicted, MayBeEvicted}
 use Rattle.evict_step.specs.Cuts.{IsLeastUnended}
 use Rattle.evict_step.specs.Kept.{KeepsThese, with_moved}
 use Rattle.ckpt_step.specs.declared.evicting.Evicted.{Evicted}
@@ -28,13 +34,12 @@ use Rattle.ckpt_step.specs.Evicts.{Evicts, EvictsEngine, HasLeftFrame, HasLeftIn
 use Rattle.ckpt_step.specs.Floors.{AreLivesOn, Follows}
 use Rattle.ckpt_step.specs.Grounds.{StandsOn, number_of}
 use Rattle.ckpt_step.specs.WritesOut.{FallenOut, NotWritten, WhyNotOut}
-use Rattle.ckpt_step.proofs.KeptLists.{keeps_none}
-use Rattle.ckpt_step.proofs.MovedApart.{keeps_more}
 use Rattle.engine_store.specs.declared.store.Store.{Store}
 use Rattle.engine_store.specs.Devices.{Installed, IsLater, IsNumberOf, KeepsCheckpoint, device_of, may_open_to}
 use Rattle.engine_store.specs.Held.{IsGrounded, IsHeld, IsHeldIn}
 use Rattle.engine_store.specs.Room.{MakesRoom, RoomAlike, RoomDown, RoomMade, RoomOf, RoomUp}
 use Rattle.engine_store.proofs.Contents.{numbered}
+use Rattle.engine_store.proofs.CutShelves.{below, changed_there, cut, cut_past, follows_cut, kept_parted, on_cut, stands_cut}
 use Rattle.engine_store.proofs.GoingOut.{held_out, none_out}
 use Rattle.engine_store.proofs.OtherRecords.{held_kept, keeps_at}
 use Rattle.engine_store.proofs.Taking.{kept_held}
@@ -164,27 +169,39 @@ module _ {D : Type 0} (g : Ghosts D) (start_disk before after : D)
     keeps now = record { capacity = disk.room; checkpoint = still_later (g.seen before) (g.seen after) grounded.old grounded.on.stands.seen_has now }
 
     -- with this on the shelf and in the history, and these calls that may be told so
-    went : (shelf : ℕ → List Row) (records : Records) (again : ℕ → Bool) → ((session : ℕ) → w.again session ≡ true → again session ≡ true) → Kept → Stands s'.engine (record w { shelf = shelf; records = records; again = again }) → KeepsThese (record w { shelf = shelf; records = records; again = again }) s'.ground.kept
+    went : (shelf : ℕ → List Row) (records : Records) (again : ℕ → Bool) → ((session : ℕ) → w.again session ≡ true → again session ≡ true) → Kept → Stands s'.engine (record w { shelf = shelf; records = records; again = again }) → KeepsThese (record w { shelf = shelf; records = records; again = again }) s'.ground.kept → ((id : ℕ) → s'.engine.hub.dir.next ≤ id → shelf id ≡ [])
         → StandsOn (g.seen after) (g.may_leave after) s'.engine.hub s'.ground grounded.old → Follows grounded.old s'.engine.hub s'.ground (record w { shelf = shelf; records = records; again = again }) → AreLivesOn (g.seen after) s'.engine.hub s'.ground (record w { shelf = shelf; records = records; again = again })
         → RoomUp g start_disk w first made s s' before after
-    went shelf records again more left stands keeps_these on follows since = record {
+    went shelf records again more left stands keeps_these bare on follows since = record {
       room = record {
         shelf = shelf;
         again = again;
         more = more;
         later = is_later left;
         capacity = disk.room;
-        held = held_kept g start_disk after s' (record w { shelf = shelf; records = records; again = again }) first made (kept_held g start_disk before after counts only image s s' w first made held grounded (record w { shelf = shelf; records = records; again = again }) stands keeps_these held.idle refl left (λ up. (on, follows, since)));
+        held = held_kept g start_disk after s' (record w { shelf = shelf; records = records; again = again }) first made (kept_held g start_disk before after counts only image s s' w first made held grounded (record w { shelf = shelf; records = records; again = again }) stands keeps_these bare held.idle refl left (λ up. (on, follows, since)));
       };
       keeps = keeps on.stands.seen_has;
     }
+
+    -- the leaf is there still, and its id was given before
+    still_there : (link : Link) → HasBeenEvicted s.engine s'.engine id link → (l : Leaf) × Contains s'.engine.hub.dir.leaves l × (l.id ≡ id)
+    still_there link out = subst (λ (e : Engine). (l : Leaf) × Contains e.hub.dir.leaves l × (l.id ≡ id)) (sym out.is) (changed_there id (led_out link) s.engine.hub.dir.leaves (λ l. refl) out.may.leaf (named-there id s.engine.hub.dir.leaves out.may.leaf out.may.there) (named-is id s.engine.hub.dir.leaves out.may.leaf out.may.there))
+
+    rows_bare : (rows : List Row) (link : Link) → HasBeenEvicted s.engine s'.engine id link → (other : ℕ) → s'.engine.hub.dir.next ≤ other → (if other == id then rows else w.shelf other) ≡ []
+    rows_bare rows link out other late =
+        let last : s.engine.hub.dir.next ≤ other = subst (λ (e : Engine). e.hub.dir.next ≤ other) out.is late in
+        let lower : id < s.engine.hub.dir.next = subst (λ (n : ℕ). n < s.engine.hub.dir.next) (named-is id s.engine.hub.dir.leaves out.may.leaf out.may.there) (below s.engine.hub.dir out.may.leaf held.stands.dir (named-there id s.engine.hub.dir.leaves out.may.leaf out.may.there)) in
+        let isnt : (other == id) ≡ false = ne_eqb other id (λ same. omega (arith, last, lower, same)) in
+        rw isnt (held.bare other last)
 
     -- it left its frame
     goes : HasLeftFrame g grounded.old w s.ground s'.ground s.engine s'.engine id before after → RoomUp g start_disk w first made s s' before after
     goes h =
         let x = h.left in
         let v : World = with_records id (λ key. versions_in key h.moved) (with_rows id x.rows (with_again s.engine x.out.may.framed.frame w)) in
-        went v.shelf v.records v.again (λ session is. or_later _ (w.again session) is) x.left x.stands (keeps_at s.ground.kept s'.ground.kept id h.moved w held.kept h.kept) x.on x.follows x.since
+        went v.shelf v.records v.again (λ session is. or_later _ (w.again session) is) x.left x.stands
+        (keeps_at s.ground.kept s'.ground.kept id x.rows h.moved s'.engine (with_again s.engine x.out.may.framed.frame w) x.stands (still_there x.link x.out) held.kept h.kept) (rows_bare x.rows x.link x.out) x.on x.follows x.since
 
     -- it parted
     parts : HasLeftInParts g grounded.old w s.ground s'.ground s.engine s'.engine id before after → RoomUp g start_disk w first made s s' before after
@@ -192,18 +209,24 @@ module _ {D : Type 0} (g : Ghosts D) (start_disk before after : D)
         let x = h.left in
         let leaves = s'.engine.hub.dir.leaves in
         let table = x.parted.way.leaf.table in
-        went x.shelf (with_moved leaves table h.moved w.records) w.again (λ session is. is) x.left x.stands (keeps_more w s.ground.kept s'.ground.kept leaves table h.moved x.shelf held.kept h.kept) x.on x.follows x.since
+        let v : World = record w { shelf = x.shelf; records = with_moved leaves table h.moved w.records } in
+        let n = s'.engine.hub.dir.next in
+        let stands = stands_cut s'.engine v x.stands in
+        went (cut n x.shelf) v.records w.again (λ session is. is) x.left stands
+        (kept_parted s.engine w s.ground.kept held.stands held.kept held.bare s'.engine table h.moved x.shelf s'.ground.kept h.kept x.ids x.to.others x.to.kept stands) (λ id late. cut_past n x.shelf id late)
+        x.on (follows_cut grounded.old s'.engine.hub s'.ground v x.stands.dir x.follows) (on_cut (g.seen after) s'.engine.hub s'.ground v x.stands.dir x.since)
 
     -- it has no keys, and left its frame without a block
-    empties : LeftEmpty g grounded.old w s.ground s'.ground s.engine s'.engine id before after → KeepsThese w s'.ground.kept → RoomUp g start_disk w first made s s' before after
-    empties x keeps_these =
+    empties : LeftEmpty g grounded.old w s.ground s'.ground s.engine s'.engine id before after → RoomUp g start_disk w first made s s' before after
+    empties x =
         let v : World = with_records id (λ key. []) (with_rows id [] (with_again s.engine x.out.may.framed.frame w)) in
-        went v.shelf v.records v.again (λ session is. or_later _ (w.again session) is) x.left x.stands (keeps_none s.engine w id s'.ground.kept held.stands x.out.may keeps_these) x.on x.follows x.since
+        went v.shelf v.records v.again (λ session is. or_later _ (w.again session) is) x.left x.stands
+        (keeps_at s.ground.kept s'.ground.kept id [] [] s'.engine (with_again s.engine x.out.may.framed.frame w) x.stands (still_there x.link x.out) held.kept x.kept) (rows_bare [] x.link x.out) x.on x.follows x.since
 
     -- it stays
     stays : NotWritten g grounded.old w s.ground s'.ground s.engine s'.engine id before after → KeepsThese w s'.ground.kept → RoomUp g start_disk w first made s s' before after
     stays n keeps_these =
-        went w.shelf w.records w.again (λ session is. is) n.left (subst (λ (e : Engine). Stands e w) (sym n.same) held.stands) keeps_these (subst (λ (e : Engine). StandsOn (g.seen after) (g.may_leave after) e.hub s'.ground grounded.old) (sym n.same) n.on)
+        went w.shelf w.records w.again (λ session is. is) n.left (subst (λ (e : Engine). Stands e w) (sym n.same) held.stands) keeps_these (λ id late. held.bare id (subst (λ (e : Engine). e.hub.dir.next ≤ id) n.same late)) (subst (λ (e : Engine). StandsOn (g.seen after) (g.may_leave after) e.hub s'.ground grounded.old) (sym n.same) n.on)
         (subst (λ (e : Engine). Follows grounded.old e.hub s'.ground w) (sym n.same) n.follows) (subst (λ (e : Engine). AreLivesOn (g.seen after) e.hub s'.ground w) (sym n.same) n.since)
 
     -- a write failed
@@ -219,7 +242,7 @@ module _ {D : Type 0} (g : Ghosts D) (start_disk before after : D)
             more = λ session is. is;
             later = is_later f.left;
             capacity = disk.room;
-            held = held_kept g start_disk after s' down first made (kept_held g start_disk before after counts only image s s' w first made held grounded down (subst (λ (e : Engine). Stands e down) (sym f.down) (downs s.engine w f.fault held.stands)) keeps_these held.idle refl f.left (λ up. absurd (not_up f.fault up)));
+            held = held_kept g start_disk after s' down first made (kept_held g start_disk before after counts only image s s' w first made held grounded down (subst (λ (e : Engine). Stands e down) (sym f.down) (downs s.engine w f.fault held.stands)) keeps_these (λ id late. held.bare id (subst (λ (e : Engine). e.hub.dir.next ≤ id) f.down late)) held.idle refl f.left (λ up. absurd (not_up f.fault up)));
           };
         }
       where
@@ -229,7 +252,7 @@ module _ {D : Type 0} (g : Ghosts D) (start_disk before after : D)
     by_result : (result : Result Evicted Refusal) → Evicts g grounded.old w s.ground s'.ground s.engine s'.engine id before after result → KeepsStill w s'.ground.kept result → Made
     by_result (Ok Done) x still = inl (goes x)
     by_result (Ok Parted) x still = inl (parts x)
-    by_result (Ok Emptied) x still = inl (empties x still)
+    by_result (Ok Emptied) x still = inl (empties x)
     by_result (Ok (Stays why)) (n, keeps) still = inl (stays n still)
     by_result (Ok (Unresolved who)) (n, unended) still = inl (stays n still)
     by_result (Ok Empty) (n, none) still = inl (stays n still)
@@ -241,7 +264,7 @@ module _ {D : Type 0} (g : Ghosts D) (start_disk before after : D)
     told_by : (result : Result Evicted Refusal) → Evicts g grounded.old w s.ground s'.ground s.engine s'.engine id before after result → KeepsStill w s'.ground.kept result → LeafTold g start_disk w first made s s' before after id result
     told_by (Ok Done) x still = (goes x, x.left.out.may)
     told_by (Ok Parted) x still = (parts x, x.left.parted.may.may)
-    told_by (Ok Emptied) x still = (empties x still, x.out.may)
+    told_by (Ok Emptied) x still = (empties x, x.out.may)
     told_by (Ok (Stays why)) (n, keeps) still = (stays n still, (n.same, keeps))
     told_by (Ok (Unresolved who)) (n, least) still = (stays n still, (n.same, least))
     told_by (Ok Empty) (n, none) still = (stays n still, n.same)

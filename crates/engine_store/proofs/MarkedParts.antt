@@ -115,7 +115,6 @@ module _ (known : List Table) (d : Directory) (is : IsDirectory d) (marks : Mark
 
   pub roots_kept : (places : List TreePlace) (s : Stored) → HasRoots known [] d.leaves (known_in []) places s → HasRoots known [] d.leaves written places s
   roots_kept places s roots = record {
-    bare = roots.bare;
     few = roots.few;
     count = roots.count;
     trees = λ i t place at stands. let tree = roots.trees i t place at stands in (tree.0, tree.1, parted t.number place tree.0 tree.2);

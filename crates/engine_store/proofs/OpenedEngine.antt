@@ -1,23 +1,23 @@
 -- The engine that begins on what was surveyed of a device that reads, and the world for which it stands.
-use Rattle.std.proofs.Common.{◌≡◌, ℕ, suc, List, [], ◌∷◌, length, map, Option, Some, None, refl, sym, ap, subst, ◌∙◌}
+use Rattle.std.proofs.Common.{◌≡◌, ℕ, suc, List, [], ◌∷◌, length, map, Option, Some, None, refl, sym, ap, subst, ◌∙◌, inr}
 use Rattle.std.specs.Prelude.{option_map, slice_get}
-use Rattle.std.specs.List.{AllByRecursion, Contains}
+use Rattle.std.specs.List.{AllByRecursion}
 use Rattle.kv_model.specs.Content.{Content, descending, table_lt}
 use Rattle.kv_model.specs.History.{Table}
 use Rattle.kv_model.specs.Holds.{Member}
-use Rattle.kv_model.specs.Regular.{AllApart, SameNumber}
+use Rattle.kv_model.specs.Regular.{AllApart, IsRegular, SameNumber}
 use Rattle.catalog.specs.Opens.{AreRecorded}
 use Rattle.kv_model.proofs.Sorting.{descending-member}
 use Rattle.row_page.specs.Rows.{Row}
 use Rattle.leaf_rows.specs.declared.marks.Marks.{Marks}
-use Rattle.stored.specs.Stored.{content_of, tables_of as record_tables}
-use Rattle.stored.specs.Tree.{AllBear}
+use Rattle.stored.specs.Stored.{Reads, content_of, tables_of as record_tables}
+use Rattle.stored.specs.HistoryTree.{HistoryRecord, record_in}
+use Rattle.stored.specs.Tree.{AllBear, join}
 use Rattle.stored.specs.TableTree.{Entry, table_kind}
 use Rattle.device_leaf.specs.declared.place.Place.{Place}
 use Rattle.tree_dir.specs.declared.leaf.Leaf.{Leaf}
 use Rattle.tree_dir.specs.Leaves.{leaves_of}
-use Rattle.tree_dir.proofs.Parting.{ids-name}
-use Rattle.recover_open.specs.declared.surveying.Above.{Above}
+use Rattle.recover_open.specs.declared.wholes.Whole.{Whole}
 use Rattle.recover_open.specs.Bare.{marks_of}
 use Rattle.recover_open.specs.Leaves.{AreLeaves}
 use Rattle.wt_calls.specs.declared.system_call.SystemCall.{SystemCall}
@@ -25,21 +25,25 @@ use Rattle.wt_calls.specs.Calls.{system_call_in}
 use Rattle.kv_model.specs.Calls.{Call}
 use Rattle.engine_world.specs.Stands.{Engine, Stands}
 use Rattle.engine_world.specs.Systems.{first_world}
-use Rattle.engine_world.specs.Worlds.{World}
+use Rattle.engine_world.specs.Worlds.{Records}
 use Rattle.engine.specs.Directories.{HubGoesOn, LeavesGoOn}
 use Rattle.engine_start.specs.declared.table_entries.TableEntries.{TableEntries}
-use Rattle.engine_start.specs.Contents.{TableLeaf, leaves_content_with}
-use Rattle.engine_start.specs.Entries.{AllBorne, HaveLeaves, IsParted, IsShelf, IsUnread, Led, entries_of, kept_of, led_by, leaves_led, shelf_of, tables_of, whole_tables}
+use Rattle.engine_start.specs.Contents.{TableLeaf, content_with}
+use Rattle.engine_start.specs.Entries.{AllBorne, HaveLeaves, IsContentOf, IsParted, IsUnread, Led, entries_of, led_by, leaves_led, tables_of, whole_tables}
 use Rattle.engine_start.proofs.LedRows.{are_led, borne_part}
 use Rattle.engine_start.proofs.Placing.{member_turned}
 use Rattle.engine_start.proofs.TablesAdded.{member_table}
+use Rattle.kept_open.specs.Keeping.{HasMarks}
 use Rattle.ckpt_step.proofs.Members.{member_at}
-use Rattle.engine_store.specs.Marked.{IsLeafKept}
 use Rattle.engine_store.specs.Tables.{AreWithEntries}
 use Rattle.engine_store.proofs.BorneTables.{all_borne, all_leaves, content_joined, have_many, leaves_by, leaves_in, tables_with}
-use Rattle.engine_store.proofs.KeptLeaves.{leaf_kept, own_entries}
+use Rattle.engine_store.proofs.KeptLeaves.{own_entries}
 use Rattle.engine_store.proofs.LeafBehind.{entries_in}
 use Rattle.engine_store.proofs.SurveyedTrees.{IsSurveyedOf, old_of}
+
+-- what is read of a device is regular
+abbrev pub ReadsAreRegular : Type 0
+ReadsAreRegular = (bytes : List ℕ) (c : Content) → Reads bytes c → IsRegular c
 
 -- ---- of an engine that has read no leaf
 
@@ -55,7 +59,7 @@ have_borne [] (leaves ∷ all) borne = absurd borne
 have_borne (t ∷ both) [] borne = absurd borne
 have_borne (t ∷ both) (leaves ∷ all) borne = (borne.0.table.climbs, leaves_many (entries_of t) leaves borne.0.bear, have_borne both all borne.1)
 
-module _ (bytes : List ℕ) (place : Place) (a : Above) (of : IsSurveyedOf bytes place a) (both : List TableEntries) (with : AreWithEntries both a.record.tables a.uppers.items) (recorded : AreRecorded (record_tables a.record.tables) a.record.next_table) where
+module _ (bytes : List ℕ) (place : Place) (a : Whole) (of : IsSurveyedOf bytes place a) (both : List TableEntries) (with : AreWithEntries both a.record.tables a.uppers.items) (recorded : AreRecorded (record_tables a.record.tables) a.record.next_table) where
   abbrev all : List (List (List Row))
   all = leaves_in of.trees
 
@@ -72,31 +76,31 @@ module _ (bytes : List ℕ) (place : Place) (a : Above) (of : IsSurveyedOf bytes
   pub led_parted : AllByRecursion (IsParted led) both
   led_parted = (borne_part both all apart borne).0
 
-  led_leaves : AllByRecursion (λ (t : TableEntries). AreLeaves bytes (entries_of t) None (leaves_led led t)) both
+  pub led_leaves : AllByRecursion (λ (t : TableEntries). AreLeaves bytes (entries_of t) None (leaves_led led t)) both
   led_leaves = leaves_by bytes led both all (are_led both all apart (have_borne both all borne)) (all_leaves bytes both a.record.tables a.uppers.items of.trees with of.have of.uppers)
 
-  pub led_content : leaves_content_with (marks_of a.record) a.record.snapshot.ids (whole_tables led both) ≡ content_of (old_of bytes place a of)
+  -- the content of the device
+  abbrev pub content : Content
+  content = content_of (old_of bytes place a of)
+
+  pub led_content : content_with (marks_of a.record) a.record.snapshot.ids (whole_tables led both) (map {A = HistoryRecord} record_in (join of.history.leaves)) ≡ content
   led_content =
-      ap (λ (ls : List TableLeaf). leaves_content_with (marks_of a.record) a.record.snapshot.ids ls) (borne_part both all apart borne).1
-      ∙ content_joined of.slot a.record both a.uppers.items of.trees with (have_many bytes a.record.tables of.trees of.have)
+      ap (λ (ls : List TableLeaf). content_with (marks_of a.record) a.record.snapshot.ids ls (map {A = HistoryRecord} record_in (join of.history.leaves))) (borne_part both all apart borne).1
+      ∙ content_joined of.slot a.record both a.uppers.items of.trees of.history with (have_many bytes a.record.tables of.trees of.have)
+
+  pub is_content : IsContentOf (marks_of a.record) both content
+  is_content = record { run = refl; oldest = refl; stable = refl; tables_are = sym (tables_with both a.record.tables a.uppers.items with) }
+
+  pub has_marks : HasMarks content (marks_of a.record) a.record.snapshot.ids
+  has_marks = record { run = refl; stable = refl; snapshot = refl }
+
+  pub records_are : content.records ≡ map {A = HistoryRecord} record_in a.history.records.items
+  records_are = ap (λ (l : List HistoryRecord). map {A = HistoryRecord} record_in l) (sym of.read)
+
+  pub regular : ReadsAreRegular → IsRegular content
+  regular law = law bytes content (inr (old_of bytes place a of, of.serves.still, refl))
 
   module _ (e : Engine) (unread : IsUnread (marks_of a.record) both e) where
-    -- the shelf has what an opening keeps
-    abbrev pub shelf : ℕ → List Row
-    shelf = shelf_of (marks_of a.record) a.record.snapshot.ids led e.hub.dir.leaves
-
-    pub shelved : IsShelf (marks_of a.record) a.record.snapshot.ids led shelf e.hub.dir.leaves
-    shelved l there = ap (λ (o : Option Leaf). kept_of (marks_of a.record) a.record.snapshot.ids led o) (ids-name e.hub.dir unread.dir l there)
-
-    abbrev pub begun : World
-    begun = first_world (content_of (old_of bytes place a of)) shelf e
-
-    pub begun_stands : Stands e (first_world (leaves_content_with (marks_of a.record) a.record.snapshot.ids (whole_tables led both)) shelf e) → Stands e begun
-    begun_stands st = subst (λ (c : Content). Stands e (first_world c shelf e)) led_content st
-
-    pub begun_kept : (l : Leaf) → Contains e.hub.dir.leaves l → IsLeafKept bytes e.hub.dir (marks_of a.record) a.record.snapshot.ids shelf l
-    begun_kept l there = leaf_kept both e.hub.dir unread.dir apart unread.added bytes led led_leaves (marks_of a.record) a.record.snapshot.ids shelf shelved l there
-
     pub begun_own : (t : TableEntries) → Member t both → entries_in (leaves_of t.table.number e.hub.dir.leaves) ≡ entries_of t
     begun_own t there = own_entries both e.hub.dir unread.dir apart unread.added t there
 
@@ -130,5 +134,5 @@ none_started (x ∷ now) (y ∷ was) same =
     ap (λ (l : List (Option Call)). None ∷ l) (none_started now was rest)
 
 -- so it stands for the world with which another one would begin
-pub still_first : (c : Content) (shelf : ℕ → List Row) (e next : Engine) → Stands next (first_world c shelf e) → Stands next (first_world c shelf next)
-still_first c shelf e next st = subst (λ (l : List (Option Call)). Stands next (record (first_world c shelf e) { systems = l })) (none_started next.systems e.systems st.systems) st
+pub still_first : (c : Content) (shelf : ℕ → List Row) (records : Records) (e next : Engine) → Stands next (first_world c shelf records e) → Stands next (first_world c shelf records next)
+still_first c shelf records e next st = subst (λ (l : List (Option Call)). Stands next (record (first_world c shelf records e) { systems = l })) (none_started next.systems e.systems st.systems) st

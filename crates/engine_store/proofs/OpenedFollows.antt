@@ -1,15 +1,14 @@
 -- What the device has of each leaf of an engine that was opened on it: of the leaves that are in no frame what stands on the shelf.
-use Rattle.std.proofs.Common.{◌≡◌, ◌⊎◌, false, ℕ, List, [], ◌∷◌, Option, Some, None, refl, sym, ap, subst, ◌∙◌, inl, inr, arith}
+use Rattle.std.proofs.Common.{◌≡◌, ◌⊎◌, false, ℕ, List, [], ◌∷◌, Option, Some, None, sym, ap, subst, ◌∙◌, inl, inr, arith}
 use Rattle.std.specs.Prelude.{◌==◌, true, IsTrue, nat_lt}
-use Rattle.std.specs.List.{Contains}
+use Rattle.std.specs.List.{AllByRecursion, Contains}
 use Rattle.std.proofs.lemmas.Bool.{cases_Bool, false≢true, ltb-true}
 use Rattle.device_layout.specs.declared.link.Link.{Link}
 use Rattle.kv_model.specs.Content.{Content, start}
 use Rattle.kv_model.specs.History.{Table}
 use Rattle.leaf_load.specs.Loads.{are_surely_seen}
 use Rattle.leaf_load.proofs.Early.{surely_seen}
-use Rattle.leaf_load.proofs.Seen.{all_kept}
-use Rattle.leaf_rows.specs.Contents.{is_seen_row, seen_rows}
+use Rattle.leaf_rows.specs.Contents.{is_seen_row}
 use Rattle.leaf_rows.specs.declared.marks.Marks.{Marks}
 use Rattle.row_page.specs.Greatest.{durables_of, most_in, no_name}
 use Rattle.row_page.specs.Rows.{Row}
@@ -24,6 +23,10 @@ use Rattle.tree_open.specs.declared.place.TreePlace.{TreePlace}
 use Rattle.device_leaf.specs.Leaves.{LeafIs}
 use Rattle.recover_open.proofs.OneLeaf.{one_leaf}
 use Rattle.engine_world.specs.Worlds.{World}
+use Rattle.reconcile.specs.declared.image.Moved.{Moved}
+use Rattle.evict_step.specs.Kept.{Lists, list_of}
+use Rattle.kept_open.specs.Laws.{WholeRowsOpen}
+use Rattle.kept_open.specs.Opening.{shows}
 use Rattle.ckpt_step.specs.Floors.{FollowsFrom, IsAsItLies, Respects}
 use Rattle.ckpt_step.specs.Parts.{AreBelowFloor, has_rows, own_part, part_in, part_leaves, part_of}
 use Rattle.ckpt_step.specs.Rooms.{Written}
@@ -58,26 +61,26 @@ no_part l part is below = elim (cases_Bool (l.entry.link.greatest.id == 0)) [
 
 -- ---- of unmarked leaves all is kept
 
-unmarked_seen : (bytes : List ℕ) (marks : Marks) (ids : List ℕ) (link : Link) (rows : List Row) → are_surely_seen marks link.greatest link.durable ≡ true → LeafIs bytes link rows → seen_rows marks ids rows ≡ rows
+unmarked_seen : (bytes : List ℕ) (marks : Marks) (ids : List ℕ) (link : Link) (rows : List Row) → are_surely_seen marks link.greatest link.durable ≡ true → LeafIs bytes link rows → AllByRecursion (λ (r : Row). IsTrue (is_seen_row marks ids r)) rows
 unmarked_seen bytes marks ids link rows sure leaf =
     let says = leaf.bears.says in
-    all_kept (is_seen_row marks ids) rows
-    (surely_seen marks ids rows (subst (λ (n : Name). IsTrue (are_surely_seen marks n (most_in (durables_of rows)))) says.greatest (subst (λ (k : ℕ). IsTrue (are_surely_seen marks link.greatest k)) says.durable sure)))
+    surely_seen marks ids rows (subst (λ (n : Name). IsTrue (are_surely_seen marks n (most_in (durables_of rows)))) says.greatest (subst (λ (k : ℕ). IsTrue (are_surely_seen marks link.greatest k)) says.durable sure))
 
 -- a leaf without rows has none to keep
-bare_seen : (bytes : List ℕ) (marks : Marks) (ids : List ℕ) (link : Link) (rows : List Row) → has_rows link ≡ false → LeafIs bytes link rows → seen_rows marks ids rows ≡ rows
-bare_seen bytes marks ids link [] none leaf = refl
+bare_seen : (bytes : List ℕ) (marks : Marks) (ids : List ℕ) (link : Link) (rows : List Row) → has_rows link ≡ false → LeafIs bytes link rows → AllByRecursion (λ (r : Row). IsTrue (is_seen_row marks ids r)) rows
+bare_seen bytes marks ids link [] none leaf = tt
 bare_seen bytes marks ids link (r ∷ rows) none leaf = absurd (false≢true (sym none ∙ some_rows (root_entry link) (r ∷ rows) leaf.bears (omega arith)))
 
--- the rows of the block are those on the shelf
-pub shelf_same : (bytes : List ℕ) (d : Directory) (marks : Marks) (ids : List ℕ) (shelf : ℕ → List Row) (was l : Leaf) (rows : List Row) → IsLeafKept bytes d marks ids shelf was → l.id ≡ was.id → l.entry ≡ was.entry → IsUnmarked marks l ⊎ (has_rows l.entry.link ≡ false) → LeafIs bytes l.entry.link rows → rows ≡ shelf l.id
-shelf_same bytes d marks ids shelf was l rows kept id entry all leaf =
+-- The rows of the block are those on the shelf, where each key of which versions are kept has a row.
+pub shelf_same : WholeRowsOpen → (bytes : List ℕ) (d : Directory) (marks : Marks) (ids : List ℕ) (lists : Lists) (shelf : ℕ → List Row) (was l : Leaf) (rows : List Row) (kept : IsLeafKept bytes d marks ids lists shelf was) → AllByRecursion (λ (v : Moved). shows kept.rows v.key ≡ true) (list_of lists was.id)
+    → l.id ≡ was.id → l.entry ≡ was.entry → IsUnmarked marks l ⊎ (has_rows l.entry.link ≡ false) → LeafIs bytes l.entry.link rows → rows ≡ shelf l.id
+shelf_same law bytes d marks ids lists shelf was l rows kept rowed id entry all leaf =
     let before : LeafIs bytes l.entry.link kept.rows = subst (λ (e : Entry). LeafIs bytes e.link kept.rows) (sym entry) kept.under.leaf in
-    let seen : seen_rows marks ids kept.rows ≡ kept.rows = elim all [
+    let seen : AllByRecursion (λ (r : Row). IsTrue (is_seen_row marks ids r)) kept.rows = elim all [
       | inl unmarked ↦ unmarked_seen bytes marks ids l.entry.link kept.rows unmarked.seen before
       | inr none ↦ bare_seen bytes marks ids l.entry.link kept.rows none before
     ] in
-    one_leaf bytes l.entry.link rows kept.rows leaf before ∙ (sym seen ∙ (sym kept.kept ∙ ap shelf (sym id)))
+    one_leaf bytes l.entry.link rows kept.rows leaf before ∙ (sym (law marks ids kept.rows (list_of lists was.id) seen rowed) ∙ (sym kept.opened ∙ ap shelf (sym id)))
 
 -- ---- all leaves
 

@@ -19,8 +19,8 @@ use Rattle.tree_open.specs.declared.place.TreePlace.{TreePlace}
 use Rattle.tree_open.specs.declared.place.Upper.{Upper}
 use Rattle.tree_open.specs.Trees.{HasTree, root_own}
 use Rattle.tree_write.specs.Writes.{LeadApart}
-use Rattle.recover_open.specs.Bare.{ArePlaces, IsBare}
-use Rattle.recover_open.specs.declared.surveying.Above.{Above}
+use Rattle.recover_open.specs.Bare.{ArePlaces}
+use Rattle.recover_open.specs.declared.wholes.Whole.{Whole}
 use Rattle.engine_start.specs.declared.table_entries.TableEntries.{TableEntries}
 use Rattle.engine_start.specs.Entries.{entries_of}
 use Rattle.ckpt_step.specs.Grounds.{AreWritten, HasRoots}
@@ -69,7 +69,7 @@ pair_entries both tables uppers trees r tree with are (i, at, also) = by i both 
 
 -- ---- on the device
 
-module _ (bytes : List ℕ) (place : Place) (a : Above) (is_record : IsRecord a.record) (bare : IsBare a.record) (of : IsSurveyedOf bytes place a) where
+module _ (bytes : List ℕ) (place : Place) (a : Whole) (is_record : IsRecord a.record) (of : IsSurveyedOf bytes place a) where
   abbrev r : Record
   r = a.record
 
@@ -122,7 +122,6 @@ module _ (bytes : List ℕ) (place : Place) (a : Above) (is_record : IsRecord a.
     module _ (ps : List TreePlace) (many : length ps ≡ length r.tables) (are : ArePlaces ps r.tables of.trees) (known : List Table) (sorted : reverse known ≡ descending table_lt (record_tables r.tables)) where
       pub roots_are : HasRoots known [] d.leaves (known_in []) (places_in r.tables ps) old
       roots_are = record {
-        bare = bare;
         few = omega (arith, length_places r.tables ps many, length_known r.tables known sorted);
         count = sym (length_places r.tables ps many);
         trees = λ i t p there stands. let at = tree_at of.slot r known ps of.trees many are sorted i t p there stands in (at.0, at.1, tree_parted t p at.0 at.1);

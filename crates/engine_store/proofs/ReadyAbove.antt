@@ -13,7 +13,7 @@ use Rattle.stored.specs.Records.{IsRecord, Root, TableFits, TableRoot}
 use Rattle.stored.specs.Stored.{tables_of as record_tables}
 use Rattle.tree_open.specs.declared.place.TreePlace.{TreePlace}
 use Rattle.tree_open.specs.declared.place.Upper.{Upper}
-use Rattle.recover_open.specs.declared.surveying.Above.{Above}
+use Rattle.recover_open.specs.declared.wholes.Whole.{Whole}
 use Rattle.recover_open.specs.Bare.{marks_of}
 use Rattle.engine_world.specs.Stands.{Engine}
 use Rattle.engine.specs.Directories.{HubGoesOn}
@@ -72,7 +72,7 @@ no_fewer known next stay = elim (cases_lt (length next) (length known)) [
 
 -- ---- with a checkpoint
 
-module _ (a : Above) (is_record : IsRecord a.record) (both : List TableEntries) (with : AreWithEntries both a.record.tables a.uppers.items) (e : Engine) (unread : IsUnread (marks_of a.record) both e) (s : Store) (goes : HubGoesOn e.hub s.engine.hub)
+module _ (a : Whole) (is_record : IsRecord a.record) (both : List TableEntries) (with : AreWithEntries both a.record.tables a.uppers.items) (e : Engine) (unread : IsUnread (marks_of a.record) both e) (s : Store) (goes : HubGoesOn e.hub s.engine.hub)
     (ps : List TreePlace) (over : AreOver ps a.record.tables a.uppers.items) (trees_are : s.ground.trees.items ≡ places_in a.record.tables ps) (number : s.ground.number ≡ a.record.sequence) where
   pub many : length ps ≡ length a.record.tables
   many = over_many ps a.record.tables a.uppers.items over

@@ -18,12 +18,12 @@ use Rattle.tree_open.specs.declared.place.Upper.{Upper}
 use Rattle.tree_open.specs.Trees.{HasTree}
 use Rattle.tree_open.proofs.OneLayer.{key_none}
 use Rattle.tree_dir.specs.Leaves.{Directory, IsDirectory, no_leaves}
-use Rattle.recover_open.specs.declared.surveying.Above.{Above}
+use Rattle.tree_open.specs.Damage.{Refused}
+use Rattle.recover_open.specs.declared.wholes.Whole.{Whole}
 use Rattle.recover_open.specs.Bare.{HaveTrees}
 use Rattle.recover_open.specs.Leaves.{AreLeaves, IsUnder}
-use Rattle.recover_open.specs.Surveys.{RefusesSurvey, Surveys}
+use Rattle.recover_open.specs.Wholes.{IsWholeDamage, SurveysWhole}
 use Rattle.recover_open.proofs.Devices.{kept_is, run_read}
-use Rattle.recover_open.proofs.Steps.{survey_refused}
 use Rattle.recover_open.proofs.TreeLeaves.{tree_leaves}
 use Rattle.engine_start.specs.declared.table_entries.TableEntries.{TableEntries}
 use Rattle.engine_start.specs.Entries.{AreAdded, tables_of}
@@ -50,7 +50,7 @@ tree_of bytes (t ∷ tables) (x ∷ uppers) [] u have are there = absurd are
 tree_of bytes (t ∷ tables) (x ∷ uppers) (tree ∷ trees) u have are (inl same) = (t.root, tree, have.0, subst (λ (y : Upper). IsUpperOf t.root y tree) (sym same) are.0)
 tree_of bytes (t ∷ tables) (x ∷ uppers) (tree ∷ trees) u have are (inr later) = tree_of bytes tables uppers trees u have.1 are.1 later
 
-no_spoils : (bytes : List ℕ) (place : Place) (a : Above) (at want found : ℕ) → IsSurveyedOf bytes place a → LeafOfSpoils bytes a.uppers.items at want found → ⊥
+no_spoils : (bytes : List ℕ) (place : Place) (a : Whole) (at want found : ℕ) → IsSurveyedOf bytes place a → LeafOfSpoils bytes a.uppers.items at want found → ⊥
 no_spoils bytes place a at want found of spoils =
     let there = tree_of bytes a.record.tables a.uppers.items of.trees spoils.upper of.have of.uppers spoils.among in
     let are : AreLeaves bytes (spoils.front ++ spoils.entry ∷ spoils.others) None there.1.leaves = subst (λ (es : List Entry). AreLeaves bytes es None there.1.leaves) (sym there.3.entries ∙ spoils.is) (tree_leaves bytes there.0 there.1 there.2) in
@@ -58,12 +58,12 @@ no_spoils bytes place a at want found of spoils =
     spoils.spoils.none leaf.0 leaf.1
 
 pub spoilt_no_content : (bytes : List ℕ) (at want found : ℕ) (content : Content) → HasSpoiltLeaf bytes at want found → Reads bytes content → ⊥
-spoilt_no_content bytes at want found content spoilt reads = no_spoils bytes spoilt.place spoilt.above at want found (surveyed_of bytes spoilt.place spoilt.above content spoilt.surveyed reads) spoilt.leaf
+spoilt_no_content bytes at want found content spoilt reads = no_spoils bytes spoilt.place spoilt.whole at want found (surveyed_of bytes spoilt.place spoilt.whole content spoilt.surveyed reads) spoilt.leaf
 
 -- ---- while an engine begins on it
 
 -- one of the leaves is not read
-pub refused_begin : {D : Type 0} (g : Ghosts D) (old new : D) (a : Above) (both : List TableEntries) (d : Directory) (r : Refusal) → IsDirectory d → AllApart SameNumber (tables_of both) → AreAdded no_leaves both d → AreWithEntries both a.record.tables a.uppers.items → RefusesSome g d old new r → RefusesBegin g a old new r
+pub refused_begin : {D : Type 0} (g : Ghosts D) (old new : D) (a : Whole) (both : List TableEntries) (d : Directory) (r : Refusal) → IsDirectory d → AllApart SameNumber (tables_of both) → AreAdded no_leaves both d → AreWithEntries both a.record.tables a.uppers.items → RefusesSome g d old new r → RefusesBegin g a old new r
 refused_begin g old new a both d r is_dir apart added with (inl none) = inl none
 refused_begin g old new a both d r is_dir apart added with (inr (id, inl failed)) = inr (inr (inr (inl failed)))
 refused_begin g old new a both d r is_dir apart added with (inr (id, inr (inl none))) = inl none
@@ -74,36 +74,38 @@ refused_begin g old new a both d r is_dir apart added with (inr (id, inr (inr (a
 
 module _ {D : Type 0} (g : Ghosts D) (first : D) where
   -- a survey
-  pub refused_survey : (new : D) (r : Refusal) → RefusesSurvey g (IsTrue (g.honest first)) first new r → RefusesOpen g (IsTrue (g.honest first)) first new r
-  refused_survey new r refused = inl (survey_refused (Rose (g.faults first) (g.faults new)) (IsTrue (g.honest first)) (g.seen first) r refused)
+  pub refused_survey : (new : D) (r : Refusal) → Refused (Rose (g.faults first) (g.faults new)) (IsTrue (g.honest first)) (IsWholeDamage (g.seen first)) r → RefusesOpen g (IsTrue (g.honest first)) first new r
+  refused_survey new r (inl failed) = inl (inl failed)
+  refused_survey new r (inr (inl none)) = inl (inr (inl none))
+  refused_survey new r (inr (inr (at, want, found, is, damage))) = inl (inr (inr (at, want, found, is, λ known. inl (damage known))))
 
   -- an engine on what was surveyed
-  module _ (mid new : D) (looked : Looked g first mid) (place : Place) (a : Above) (surveyed : IsTrue (g.honest first) → Surveys (g.seen first) place a) where
+  module _ (mid new : D) (looked : Looked g first mid) (place : Place) (a : Whole) (surveyed : IsTrue (g.honest first) → SurveysWhole (g.seen first) place a) where
     pub refused_above : (r : Refusal) → RefusesBegin g a mid new r → RefusesOpen g (IsTrue (g.honest first)) first new r
     refused_above r (inl none) = inl (inr (inl none))
-    refused_above r (inr (inl (is, last))) = inl (inr (inr (inl (
+    refused_above r (inr (inl (is, last))) = inr (inl (
       is,
       λ known content reads.
           let s = surveyed known in
           let run = run_read (g.seen first) s.slot a.record s.names.chosen s.names.is_record s.names.is content reads in
           omega (arith, run, last, s.names.is_record.run.1, s.names.is_record.sequence),
-    ))))
-    refused_above r (inr (inr (inl (is, lack)))) = inr (inl (
+    ))
+    refused_above r (inr (inr (inl (is, lack)))) = inr (inr (
       is,
       (λ known s on. let n = (surveyed known).names in subst LacksNumbers (sym (kept_is (g.seen first) (surveyed known).slot s a.record n.chosen n.is_record n.is on)) lack),
       λ known blank. no_blank (g.seen first) (surveyed known).slot (surveyed known).names.chosen blank,
     ))
     refused_above r (inr (inr (inr (inl failed)))) = inl (inl (failed.0, rose_sooner (g.faults first) (g.faults mid) (g.faults new) looked.count failed.1))
     refused_above r (inr (inr (inr (inr (inl none))))) = inl (inr (inl none))
-    refused_above r (inr (inr (inr (inr (inr (at, want, found, is, spoils)))))) = inr (inr (
+    refused_above r (inr (inr (inr (inr (inr (at, want, found, is, spoils)))))) = inl (inr (inr (
       at,
       want,
       found,
       is,
-      λ known. record {
+      λ known. inr (record {
         place = place;
-        above = a;
+        whole = a;
         surveyed = surveyed known;
         leaf = subst (λ (bytes : List ℕ). LeafOfSpoils bytes a.uppers.items at want found) looked.content (spoils (looked.same ∙ known));
-      },
-    ))
+      }),
+    )))

@@ -1,5 +1,5 @@
 -- Leaves that leave their frames, one after the other.
-use Rattle.std.proofs.Common.{◌≡◌, ◌∙◌, ℕ, List, None, Some, refl, ap, subst}
+use Rattle.std.proofs.Common.{◌≡◌, ◌∙◌, ℕ, List, None, Some, refl, ap, subst, arith}
 use Rattle.std.specs.Prelude.{slice_get}
 use Rattle.disk_model.specs.declared.disk.Disk.{Ghosts}
 use Rattle.row_page.specs.Rows.{Row}
@@ -15,6 +15,7 @@ use Rattle.ckpt_step.specs.Giving.{Forgets, GroundsGiveWay, MayTakeOver}
 use Rattle.ckpt_step.specs.Rooms.{known_in}
 use Rattle.engine_store.specs.declared.store.Store.{Store}
 use Rattle.engine_store.specs.Relieves.{LetsGo}
+use Rattle.engine_store.proofs.CutShelves.{next_climbs}
 use Rattle.engine_store.proofs.NoLives.{none_live, none_on}
 
 module _ {D : Type 0} (g : Ghosts D) where
@@ -23,7 +24,7 @@ module _ {D : Type 0} (g : Ghosts D) where
   stays s = record {
     alike = record { frames = refl; sessions = refl; tables = refl; txns = refl; number = refl; trees = refl };
     kept = refl;
-    relieves = λ disk old w stands idle on follows none newest. record { shelf = w.shelf; stands = stands; on = on; follows = follows; none = none };
+    relieves = λ disk old w stands idle on follows none newest. record { shelf = w.shelf; stands = stands; on = on; follows = follows; none = none; ids = omega arith; same = λ id less. refl };
   }
 
   -- some do, and then others
@@ -41,7 +42,15 @@ module _ {D : Type 0} (g : Ghosts D) where
     relieves = λ disk old w stands idle on follows none newest.
         let r = one.relieves disk old w stands idle on follows none newest in
         let t = two.relieves disk old (record w { shelf = r.shelf }) r.stands idle r.on r.follows r.none newest in
-        record { shelf = t.shelf; stands = t.stands; on = t.on; follows = t.follows; none = t.none };
+        record {
+          shelf = t.shelf;
+          stands = t.stands;
+          on = t.on;
+          follows = t.follows;
+          none = t.none;
+          ids = (let first = r.ids in let second = t.ids in omega (arith, first, second));
+          same = λ id less. t.same id (let first = r.ids in omega (arith, less, first)) ∙ r.same id less;
+        };
   }
 
   -- nobody is at work then, where nobody was
@@ -65,5 +74,13 @@ module _ {D : Type 0} (g : Ghosts D) where
       kept = ap (λ (x : Ground). x.kept) forgets.same;
       relieves = λ disk old w st idle on follows none newest.
           let still = law disk s.engine e w s.ground ground old id entries way st dir on follows (none_on (g.seen disk) s.engine.hub s.ground w none) (none_live s.ground.lives s.engine.hub.dir.leaves way.leaf.table none) newest (subst (λ (n : ℕ). MayTakeOver s.engine.hub.dir (known_in s.ground.parts) id n entries) (marks w st) over) forgets in
-          record { shelf = still.shelf; stands = stands way w still.shelf st idle still.shelved; on = still.on; follows = still.follows; none = ap (λ (x : Ground). x.lives) forgets.same ∙ none };
+          record {
+            shelf = still.shelf;
+            stands = stands way w still.shelf st idle still.shelved;
+            on = still.on;
+            follows = still.follows;
+            none = ap (λ (x : Ground). x.lives) forgets.same ∙ none;
+            ids = next_climbs s.engine.hub.dir e.hub.dir id entries way.ids over.place.leaf.entry.key way.gave over.place.begins;
+            same = still.shelved.others;
+          };
     }

@@ -1,44 +1,31 @@
 -- What an opening anew finds, and what it leaves of what holds between two calls.
-use Rattle.std.proofs.Common.{◌≡◌, ℕ, List, [], ◌∷◌, Option, Some, None, refl, sym, ap, subst, inl, inr, arith}
+use Rattle.std.proofs.Common.{◌≡◌, ℕ, List, [], ◌∷◌, refl, sym, subst, inl, inr, arith}
 use Rattle.failure.specs.Counts.{Rose}
 use Rattle.disk_model.specs.Crash.{Each, LeavesOnly, Looked}
 use Rattle.disk_model.specs.declared.disk.Disk.{Ghosts}
 use Rattle.wt_code.specs.declared.refusals.Refusal.{Refusal}
 use Rattle.kv_model.specs.Content.{Content, OpensAs, start}
-use Rattle.kv_model.specs.History.{Table}
 use Rattle.kv_model.specs.Holds.{Member}
 use Rattle.kv_model.specs.Machine.{Completed}
 use Rattle.stored.specs.Stored.{Stored, Reads, IsBlank, IsOn}
 use Rattle.stored.proofs.Device.{one_content}
 use Rattle.device_leaf.specs.Closings.{content_was}
-use Rattle.tree_open.specs.declared.place.TreePlace.{TreePlace}
-use Rattle.recover_open.specs.Bare.{IsBare}
-use Rattle.recover_open.proofs.Devices.{damage_no_content}
-use Rattle.tree_dir.specs.declared.leaf.Leaf.{Leaf}
-use Rattle.engine_world.specs.Systems.{first_world}
+use Rattle.recover_open.proofs.Devices.{whole_damage_no_content}
 use Rattle.engine_world.specs.Worlds.{World}
-use Rattle.evict_step.specs.Kept.{Lists, records_in}
-use Rattle.ckpt_step.specs.declared.lives.Lone.{Lone}
 use Rattle.ckpt_step.specs.Floors.{AreLivesOn}
-use Rattle.ckpt_step.specs.Grounds.{AreRoots}
-use Rattle.ckpt_step.specs.Plain.{IsBareStill, StartsPlain}
-use Rattle.ckpt_step.specs.Rooms.{Written, known_in}
 use Rattle.engine_store.specs.declared.store.Store.{Store}
 use Rattle.engine_store.specs.Answers.{RefusesReopening}
-use Rattle.engine_store.specs.Devices.{Installed, IsUsedUp, IsWide, device_of, may_open_to}
+use Rattle.engine_store.specs.Devices.{Installed, IsUsedUp, device_of, may_open_to}
 use Rattle.engine_store.specs.Held.{IsHeldIn, NotReopened, Reopens}
 use Rattle.engine_store.specs.Images.{OpensToAny, OpensToLast, OpensToOne}
-use Rattle.engine_store.specs.Opened.{IsOpened, LacksNumbers, OpenRefused}
+use Rattle.engine_store.specs.Keeping.{begun_with}
+use Rattle.engine_store.specs.Opened.{IsAtFault, IsOpened, LacksNumbers, OpenRefused}
 use Rattle.engine_store.proofs.Backed.{stands_looked}
 use Rattle.engine_store.proofs.Contents.{start_opens, still_reads}
 use Rattle.engine_store.proofs.Installing.{past_later, stays_on}
 use Rattle.engine_store.proofs.NoLives.{none_on}
 use Rattle.engine_store.proofs.OtherRecords.{held_kept}
 use Rattle.engine_store.proofs.Refusing.{spoilt_no_content}
-
-bare_still : (known : List Table) (lives : List Lone) (leaves : List Leaf) (written : Written) (places : List TreePlace) (old : Option Stored) → AreRoots known lives leaves written places old → IsBareStill old
-bare_still known lives leaves written places None roots = tt
-bare_still known lives leaves written places (Some s) roots = roots.bare
 
 -- ---- a device that was only looked at
 
@@ -59,6 +46,7 @@ module _ {D : Type 0} (g : Ghosts D) (start_disk before after : D) (looked : Loo
     stands = held.stands;
     idle = held.idle;
     kept = held.kept;
+    bare = held.bare;
     on = λ up. let on = held.on up in record {
       old = on.old;
       on = stands_looked (g.seen before) (g.seen after) (g.may_leave before) (g.may_leave after) s.engine.hub s.ground on.old looked.content looked.images on.on;
@@ -102,12 +90,13 @@ module _ {D : Type 0} (g : Ghosts D) (start_disk before after : D) (looked : Loo
         inl (content, ((λ c left. subst (λ (x : Content). Reads c x) same (each.0 c (looked.images c left))), one.2.layered), opens)
     last_reopened (inr (pending, there, each)) = inr (pending, there, images_looked)
 
-    held_reopened : IsHeldIn g start_disk s' after (first_world content is.shelf s'.engine) first made
+    held_reopened : IsHeldIn g start_disk s' after (begun_with content is.shelf s') first made
     held_reopened = record {
       stands = is.world;
       idle = refl;
-      kept = λ leaf key. sym (ap (λ (l : Lists). records_in l leaf key) is.kept);
-      on = λ up. record { old = is.old; on = is.on; follows = is.follows; since = none_on (g.seen after) s'.engine.hub s'.ground (first_world content is.shelf s'.engine) is.none; opens = opens; one = one };
+      kept = λ leaf key. refl;
+      bare = is.bare;
+      on = λ up. record { old = is.old; on = is.on; follows = is.follows; since = none_on (g.seen after) s'.engine.hub s'.ground (begun_with content is.shelf s') is.none; opens = opens; one = one };
       images = images_looked;
       last = last_reopened held.last;
       ever = ever_looked;
@@ -115,8 +104,8 @@ module _ {D : Type 0} (g : Ghosts D) (start_disk before after : D) (looked : Loo
       past = held_looked.past;
     }
 
-    pub reopened : StartsPlain → Reopens g start_disk w first made s s' before after
-    reopened plain = record {
+    pub reopened : Reopens g start_disk w first made s s' before after
+    reopened = record {
       content = content;
       reads = reads;
       one = one;
@@ -124,29 +113,27 @@ module _ {D : Type 0} (g : Ghosts D) (start_disk before after : D) (looked : Loo
       seen = looked.content;
       capacity = looked.capacity;
       shelf = is.shelf;
-      held = held_kept g start_disk after s' (first_world content is.shelf s'.engine) first made held_reopened;
-      plain = plain (g.seen after) is.old is.on.stands.seen_has (bare_still s'.engine.hub.tables.tables s'.ground.lives s'.engine.hub.dir.leaves (known_in s'.ground.parts) s'.ground.trees.items is.old is.on.roots);
+      held = held_kept g start_disk after s' (begun_with content is.shelf s') first made held_reopened;
       none = is.none;
     }
 
   -- ---- it is not
 
-  wide : (content : Content) → Reads (g.seen before) content → ((s : Stored) → IsOn (g.seen before) s → IsBare s.kept → ⊥) → (IsBlank (g.seen before) → ⊥) → IsWide (g.seen before)
-  wide had (inl blank) not_bare not_blank = absurd (not_blank blank.0)
-  wide had (inr (s, on, same)) not_bare not_blank = (s, on, not_bare s on)
-
   used_up : (content : Content) → Reads (g.seen before) content → ((s : Stored) → IsOn (g.seen before) s → LacksNumbers s.kept) → (IsBlank (g.seen before) → ⊥) → IsUsedUp (g.seen before)
   used_up had (inl blank) used not_blank = absurd (not_blank blank.0)
   used_up had (inr (s, on, same)) used not_blank = (s, on, used s on)
 
+  -- a device that reads is not damaged, and none of its leaves is at fault
+  none_damaged : (content : Content) → Reads (g.seen before) content → (at want found : ℕ) → IsAtFault (g.seen before) at want found → ⊥
+  none_damaged had read at want found (inl damage) = whole_damage_no_content (g.seen before) at want found had damage read
+  none_damaged had read at want found (inr spoilt) = spoilt_no_content (g.seen before) at want found had spoilt read
+
   why_not : (known : Type 0) → known → (content : Content) → Reads (g.seen before) content → (r : Refusal) → OpenRefused (Rose (g.faults before) (g.faults after)) known (g.seen before) r → RefusesReopening (device_of g before) (device_of g after) r
   why_not known k had read r (inl (inl disk)) = inl disk
   why_not known k had read r (inl (inr (inl none))) = inr (inl none)
-  why_not known k had read r (inl (inr (inr (inl (is, last))))) = inr (inr (inr (inr (is, last k))))
-  why_not known k had read r (inl (inr (inr (inr (inl (is, not_bare, not_blank)))))) = inr (inr (inl (is, wide had read (not_bare k) (not_blank k))))
-  why_not known k had read r (inl (inr (inr (inr (inr (at, want, found, is, damage)))))) = absurd (damage_no_content (g.seen before) at want found had (damage k) read)
-  why_not known k had read r (inr (inl (is, used, not_blank))) = inr (inr (inr (inl (is, used_up had read (used k) (not_blank k)))))
-  why_not known k had read r (inr (inr (at, want, found, is, spoilt))) = absurd (spoilt_no_content (g.seen before) at want found had (spoilt k) read)
+  why_not known k had read r (inl (inr (inr (at, want, found, is, damage)))) = absurd (none_damaged had read at want found (damage k))
+  why_not known k had read r (inr (inl (is, last))) = inr (inr (inr (is, last k)))
+  why_not known k had read r (inr (inr (is, used, not_blank))) = inr (inr (inl (is, used_up had read (used k) (not_blank k))))
 
   pub not_reopened : (known : Type 0) → known → (s' : Store) → s' ≡ s → (r : Refusal) → OpenRefused (Rose (g.faults before) (g.faults after)) known (g.seen before) r → NotReopened g start_disk w first made s s' before after r
   not_reopened known k s' same r why = record {

@@ -33,8 +33,7 @@ use Rattle.ckpt_step.specs.Floors.{AreLivesOn, Follows}
 use Rattle.ckpt_step.specs.Grounds.{StandsOn}
 use Rattle.ckpt_step.specs.declared.ground.Ground.{Ground}
 use Rattle.ckpt_step.specs.declared.lives.Lone.{Lone}
-use Rattle.ckpt_step.specs.Laws.{CheckpointsOpen}
-use Rattle.ckpt_step.specs.Plain.{GoesPlain, IsPlain}
+use Rattle.ckpt_content.specs.Laws.{ReadCheckpointsOpen}
 use Rattle.ckpt_step.proofs.Floors.{goes_rolled}
 use Rattle.ckpt_step.proofs.Staying.{grounds_stay}
 use Rattle.ckpt_step.specs.Takes.{Takes}
@@ -44,7 +43,7 @@ use Rattle.engine_store.specs.Closes.{rolled}
 use Rattle.engine_store.specs.Devices.{Device, Installed, IsNumberOf, device_of, last_number, may_open_to}
 use Rattle.engine_store.specs.Held.{CheckpointsOn, IsGrounded, IsHeldIn, Shuts}
 use Rattle.engine_store.specs.Images.{OpensToLast}
-use Rattle.engine_store.proofs.Closings.{free_of, up_of}
+use Rattle.engine_store.proofs.Closings.{StaysSo, free_of, stays_rolled, up_of}
 use Rattle.engine_store.proofs.Contents.{most_number}
 use Rattle.engine_store.proofs.OtherRecords.{held_kept}
 use Rattle.engine_store.proofs.Taking.{by_takes, number_held}
@@ -128,7 +127,7 @@ module _ (m : Machine) (number : ℕ) (up : m.fault ≡ None) (idle : m.checkpoi
 
 -- ---- the answer, from that of the checkpoint
 
-module _ (lives : List Lone) (old new : Device) (before : Option Stored) (has : HasStill before old.seen) (w : World) (may : MayClose w) (goes : GoesPlain w.machine (rolled_back w.machine)) where
+module _ (lives : List Lone) (old new : Device) (before : Option Stored) (has : HasStill before old.seen) (w : World) (may : MayClose w) (free_now : w.machine.checkpoint ≡ None) where
   abbrev m : Machine
   m = w.machine
 
@@ -140,6 +139,12 @@ module _ (lives : List Lone) (old new : Device) (before : Option Stored) (has : 
 
   free : close_busy m u ≡ None
   free = free_of w may
+
+  up_then : (rolled_back m).fault ≡ None
+  up_then = (stays_rolled m).fault ∙ up
+
+  idle_then : (rolled_back m).checkpoint ≡ None
+  idle_then = (stays_rolled m).checkpoint ∙ free_now
 
   none : (session : ℕ) → transaction_of (rolled_back m) session ≡ None
   none session = none_left m u up free session
@@ -160,7 +165,7 @@ module _ (lives : List Lone) (old new : Device) (before : Option Stored) (has : 
 
   by_start : (answer : Answer (List ℕ)) (next : Machine) (number : ℕ) (start : Result (Unit {0}) Refusal) → IsNumberOf old.seen number → MayStart (rolled_back m) number start → StartedAs lives old new (rolled_back m) answer next start → CloseTakes lives old new w answer next
   by_start answer next number (Err r) counted barred (is, same) =
-      let last = barred_last (rolled_back m) number (goes.fault ∙ up) goes.plain.idle none r barred in
+      let last = barred_last (rolled_back m) number up_then idle_then none r barred in
       last_taken answer next (subst (λ (n : ℕ). IsNumberOf old.seen n) (most_number old.seen before number has counted last.1) counted) (is ∙ ap (λ (x : Refusal). let a : Answer (List ℕ) = Refused x in a) last.0) same
   by_start answer next number (Ok done) counted started stored = inr (inr (
     number,
@@ -169,7 +174,7 @@ module _ (lives : List Lone) (old new : Device) (before : Option Stored) (has : 
     rolling_back 0 m.sessions ++ (last_stored stored.storing).1,
     counted,
     inl stored.takes,
-    decides m u up free number stored.storing ∙ ap (closing m) (below_last number stored.storing (started_below (rolled_back m) number (goes.fault ∙ up) goes.plain.idle none started)),
+    decides m u up free number stored.storing ∙ ap (closing m) (below_last number stored.storing (started_below (rolled_back m) number up_then idle_then none started)),
     stored.told,
     stored.leaves ∙ sym (rolls_first m u up free (last_stored stored.storing).1),
   ))
@@ -214,7 +219,7 @@ with_rolled s middle = record s { engine = middle }
 
 -- ---- what it leaves
 
-module _ {D : Type 0} (g : Ghosts D) (start_disk before : D) (image : g.may_leave before (g.seen before)) (s : Store) (w : World) (first : Completed) (made : List Installed) (held : IsHeldIn g start_disk s before w first made) (plain : IsPlain w.machine) where
+module _ {D : Type 0} (g : Ghosts D) (start_disk before : D) (image : g.may_leave before (g.seen before)) (s : Store) (w : World) (first : Completed) (made : List Installed) (held : IsHeldIn g start_disk s before w first made) where
   -- refused at once: nothing is changed
   pub shuts_refused : (after : D) (s' : Store) (r : Refusal) → close_told w.machine.fault (busy_in w) ≡ Err r → s' ≡ s → after ≡ before → Shuts g start_disk w first made s s' before after (Err r)
   shuts_refused after s' r why same still =
@@ -227,11 +232,13 @@ module _ {D : Type 0} (g : Ghosts D) (start_disk before : D) (image : g.may_leav
         takes = let n = number_held g start_disk before image s w first made held in refused_takes s.ground.lives (device_of g before) (device_of g before) w r n.0 n.1 why;
         installs = inl refl;
         held = held_kept g start_disk before s w first made held;
-        plain = plain;
         none = λ none. none;
       }))
 
-  module _ (may : MayClose w) (goes : GoesPlain w.machine (rolled_back w.machine)) (middle : Engine) (stands : Stands middle (rolled w)) (hub : HubGoesOn s.engine.hub middle.hub) where
+  module _ (may : MayClose w) (middle : Engine) (stands : Stands middle (rolled w)) (hub : HubGoesOn s.engine.hub middle.hub) where
+    stay : StaysSo w.machine (rolled_back w.machine)
+    stay = stays_rolled w.machine
+
     abbrev s1 : Store
     s1 = with_rolled s middle
 
@@ -243,7 +250,7 @@ module _ {D : Type 0} (g : Ghosts D) (start_disk before : D) (image : g.may_leav
           on = r.on;
           follows = r.follows;
           since = r.since;
-          opens = subst (λ (k : Completed). OpensAs (content_was on.old) k) (sym goes.completed) on.opens;
+          opens = subst (λ (k : Completed). OpensAs (content_was on.old) k) (sym stay.completed) on.opens;
           one = on.one;
         }
 
@@ -253,29 +260,29 @@ module _ {D : Type 0} (g : Ghosts D) (start_disk before : D) (image : g.may_leav
     held_rolled : IsHeldIn g start_disk s1 before (rolled w) first made
     held_rolled = record {
       stands = stands;
-      idle = goes.plain.idle;
+      idle = stay.checkpoint ∙ held.idle;
       kept = held.kept;
-      on = λ up. grounded_rolled (held.on (sym goes.fault ∙ up));
+      bare = λ id late. held.bare id (let ids = hub.dir.ids in omega (arith, late, ids));
+      on = λ up. grounded_rolled (held.on (sym stay.fault ∙ up));
       images = held.images;
-      last = subst (λ (k : Completed). OpensToLast (g.may_leave before) first k made) (sym goes.completed) held.last;
+      last = subst (λ (k : Completed). OpensToLast (g.may_leave before) first k made) (sym stay.completed) held.last;
       ever = held.ever;
       stays = held.stays;
       past = held.past;
     }
 
     module _ (after : D) (counts : g.moment before ≤ g.moment after → (c : List ℕ) → g.may_leave after c → g.left_since after (g.moment before) c) (only : (c : List ℕ) → g.left_since after (g.moment after) c → g.may_leave after c)
-        (count : g.faults before ≤ g.faults after) (room : g.capacity after ≡ g.capacity before) (law : CheckpointsOpen) (downs : DownsGo) (s' : Store) (result : Result (Unit {0}) Refusal) where
+        (count : g.faults before ≤ g.faults after) (room : g.capacity after ≡ g.capacity before) (law : ReadCheckpointsOpen) (downs : DownsGo) (s' : Store) (result : Result (Unit {0}) Refusal) where
       from_checkpoint : CheckpointsOn g start_disk (rolled w) first made s1 s' before after w.shelf result → Shuts g start_disk w first made s s' before after result
       from_checkpoint t = record {
         next = t.next;
         now = t.now;
         behind = t.behind;
-        takes = closes_by s.ground.lives (device_of g before) (device_of g after) on_rolled.old on_rolled.on.stands.seen_has w may goes (answer_of result) t.next t.takes;
+        takes = closes_by s.ground.lives (device_of g before) (device_of g after) on_rolled.old on_rolled.on.stands.seen_has w may held.idle (answer_of result) t.next t.takes;
         installs = t.installs;
         held = t.held;
-        plain = t.plain;
         none = t.none;
       }
 
       pub shuts_by : OnErr result (s'.ground.lives ≡ s.ground.lives) → s'.ground.kept ≡ s.ground.kept → ((old : Option Stored) → StandsOn (g.seen before) (g.may_leave before) middle.hub s.ground old → Follows old middle.hub s.ground (rolled w) → AreLivesOn (g.seen before) middle.hub s.ground (rolled w) → Takes g old (rolled w) s.ground s'.ground middle s'.engine before after result) → Shuts g start_disk w first made s s' before after result
-      shuts_by lives kept takes = from_checkpoint (by_takes g start_disk before after counts only image s1 s' (rolled w) first made held_rolled on_rolled kept count room law downs goes.plain result lives (takes on_rolled.old on_rolled.on on_rolled.follows on_rolled.since))
+      shuts_by lives kept takes = from_checkpoint (by_takes g start_disk before after counts only image s1 s' (rolled w) first made held_rolled on_rolled kept count room law downs result lives (takes on_rolled.old on_rolled.on on_rolled.follows on_rolled.since))

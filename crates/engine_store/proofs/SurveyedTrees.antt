@@ -10,7 +10,8 @@ use Rattle.stored.specs.Blocks.{Block, Holds, IsAddressed}
 use Rattle.stored.specs.Records.{Record, Root, TableRoot}
 use Rattle.stored.specs.Stored.{AreTrees, IsOn, Reads, Stored, history_blocks, tables_blocks}
 use Rattle.stored.specs.TableTree.{Entry, TableTree, root_entry, table_kind}
-use Rattle.stored.specs.Tree.{bottom, inner_blocks, tree_blocks}
+use Rattle.stored.specs.HistoryTree.{HistoryTree}
+use Rattle.stored.specs.Tree.{bottom, inner_blocks, join, tree_blocks}
 use Rattle.stored.proofs.OneTree.{holds_back, holds_front}
 use Rattle.device_leaf.specs.declared.place.Place.{Place}
 use Rattle.device_leaf.specs.Openings.{Serves}
@@ -20,14 +21,16 @@ use Rattle.tree_open.specs.declared.place.Upper.{Upper}
 use Rattle.tree_open.specs.Trees.{IsPlaceOf, leaf_addrs, places, root_own}
 use Rattle.tree_open.proofs.Descent.{one_inner, tree_read}
 use Rattle.engine_store.proofs.TwoLists.{all_back, all_front}
-use Rattle.recover_open.specs.declared.surveying.Above.{Above}
-use Rattle.recover_open.specs.Bare.{ArePlaces, HaveTrees, HaveUppers, bare_stored}
-use Rattle.recover_open.specs.Damage.{blocks_found, uppers_found}
+use Rattle.hist_open.specs.Trees.{HasHistory}
+use Rattle.hist_open.proofs.TreeLeaves.{one_history}
+use Rattle.recover_open.specs.declared.wholes.Whole.{Whole}
+use Rattle.recover_open.specs.Bare.{ArePlaces, HaveTrees, HaveUppers, stored_with}
 use Rattle.recover_open.specs.Recoveries.{Counts}
-use Rattle.recover_open.specs.Surveys.{Surveys}
-use Rattle.recover_open.proofs.Devices.{kept_is, serves}
+use Rattle.recover_open.specs.Wholes.{SurveysWhole, whole_found}
+use Rattle.recover_open.proofs.Devices.{kept_is, whole_serves}
+use Rattle.recover_open.proofs.Places.{all_found}
 use Rattle.recover_open.proofs.TreeLeaves.{tree_places}
-use Rattle.recover_open.proofs.UpperPlaces.{uppers_are}
+use Rattle.recover_open.proofs.UpperPlaces.{wholes_are}
 use Rattle.engine_store.specs.Places.{AreOver}
 
 -- ---- the trees of a device
@@ -74,25 +77,37 @@ uppers_of bytes (t ∷ tables) (u ∷ uppers) (tree ∷ trees) have there =
 -- ---- what was surveyed
 
 -- it is of this checkpoint
-pub record IsSurveyedOf (bytes : List ℕ) (place : Place) (a : Above) : Type 0 where
+pub record IsSurveyedOf (bytes : List ℕ) (place : Place) (a : Whole) : Type 0 where
   pub slot : Slot
   pub trees : List TableTree
+  pub history : HistoryTree
   pub have : HaveTrees bytes a.record.tables trees
   pub uppers : AreUppersOf a.record.tables a.uppers.items trees
-  pub serves : Serves bytes place (Some (bare_stored slot a.record trees))
-  pub books : Counts (blocks_found slot a.record.tables trees) place.blocks
+  pub read : a.history.records.items ≡ join history.leaves
+  pub stand : a.history.addrs.items ≡ places (history_blocks a.record history)
+  pub serves : Serves bytes place (Some (stored_with slot a.record trees history))
+  pub books : Counts (all_found slot a.record trees history) place.blocks
 
-abbrev pub old_of : (bytes : List ℕ) (place : Place) (a : Above) → IsSurveyedOf bytes place a → Stored
-old_of bytes place a of = bare_stored of.slot a.record of.trees
+abbrev pub old_of : (bytes : List ℕ) (place : Place) (a : Whole) → IsSurveyedOf bytes place a → Stored
+old_of bytes place a of = stored_with of.slot a.record of.trees of.history
 
-pub surveyed_of : (bytes : List ℕ) (place : Place) (a : Above) (content : Content) → Surveys bytes place a → Reads bytes content → IsSurveyedOf bytes place a
+history_on : (bytes : List ℕ) (s : Stored) → IsOn bytes s → HasHistory bytes s.kept.history s.history
+history_on bytes s on =
+    let own : List Block = tables_blocks s.kept.tables s.trees in
+    let others : List Block = history_blocks s.kept s.history in
+    record { is = on.whole.history; addressed = all_back (λ (b : Block). IsAddressed b) own others on.whole.addressed.1; holds = holds_back bytes own others on.holds.1 }
+
+pub surveyed_of : (bytes : List ℕ) (place : Place) (a : Whole) (content : Content) → SurveysWhole bytes place a → Reads bytes content → IsSurveyedOf bytes place a
 surveyed_of bytes place a content surveyed (inl blank) = absurd (no_blank bytes surveyed.slot surveyed.names.chosen blank.0)
 surveyed_of bytes place a content surveyed (inr (s, on, same)) = record {
   slot = surveyed.slot;
   trees = s.trees;
+  history = s.history;
   have = have;
   uppers = uppers_of bytes a.record.tables a.uppers.items s.trees surveyed.have have;
-  serves = serves bytes surveyed.slot a.record s.trees surveyed.names surveyed.bare have (subst (λ (l : List Found). AreStored l (length bytes)) found surveyed.stored) place surveyed.stands surveyed.unsynced counts.has;
+  read = surveyed.history.all ∙ ap (λ (t : HistoryTree). join t.leaves) one;
+  stand = surveyed.history.stand ∙ ap (λ (t : HistoryTree). places (history_blocks a.record t)) one;
+  serves = whole_serves bytes surveyed.slot a.record s.trees s.history surveyed.names have also (subst (λ (l : List Found). AreStored l (length bytes)) found surveyed.stored) place surveyed.stands surveyed.unsynced counts.has;
   books = counts;
 }
   where
@@ -102,10 +117,17 @@ surveyed_of bytes place a content surveyed (inr (s, on, same)) = record {
     have : HaveTrees bytes a.record.tables s.trees
     have = subst (λ (r : Record). HaveTrees bytes r.tables s.trees) kept (trees_on bytes s on)
 
-    found : uppers_found surveyed.slot a.uppers.items ≡ blocks_found surveyed.slot a.record.tables s.trees
-    found = uppers_are bytes surveyed.slot a.record.tables a.uppers.items s.trees surveyed.have have
+    also : HasHistory bytes a.record.history s.history
+    also = subst (λ (r : Record). HasHistory bytes r.history s.history) kept (history_on bytes s on)
 
-    counts : Counts (blocks_found surveyed.slot a.record.tables s.trees) place.blocks
+    -- the device has one history
+    one : surveyed.history.tree ≡ s.history
+    one = one_history bytes a.record.history surveyed.history.tree s.history surveyed.history.has also
+
+    found : whole_found surveyed.slot a.uppers.items a.history.addrs.items ≡ all_found surveyed.slot a.record s.trees s.history
+    found = wholes_are bytes surveyed.slot a.record a.uppers.items a.history s.trees s.history surveyed.have have surveyed.history also
+
+    counts : Counts (all_found surveyed.slot a.record s.trees s.history) place.blocks
     counts = subst (λ (l : List Found). Counts l place.blocks) found surveyed.books
 
 -- ---- where they stand

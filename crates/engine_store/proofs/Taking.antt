@@ -15,6 +15,7 @@ use Rattle.kv_model.specs.Decisions.{StartCall}
 use Rattle.kv_model.specs.History.{Table, tables}
 use Rattle.kv_model.specs.Machine.{Machine, Completed, GoDown, after as after_event}
 use Rattle.kv_model.specs.Outside.{Stored as StoredWhole, NoPlace, ReadFailed, WriteFailed}
+use Rattle.row_page.specs.Rows.{Row}
 use Rattle.stored.specs.Opens.{Opens}
 use Rattle.stored.specs.Stored.{Stored, Reads, IsOn, content_of}
 use Rattle.stored.proofs.Device.{one_content}
@@ -28,12 +29,11 @@ use Rattle.engine_world.proofs.HubMoves.{decided-down}
 use Rattle.engine.specs.Checkpoints.{MayStart}
 use Rattle.evict_step.specs.Kept.{KeepsThese, Lists}
 use Rattle.ckpt_step.specs.declared.ground.Ground.{Ground}
-use Rattle.ckpt_step.specs.Checkpoints.{IsCheckpointOf}
+use Rattle.ckpt_content.specs.Checkpoints.{IsCheckpointOf}
+use Rattle.ckpt_content.specs.Laws.{ReadCheckpointsOpen}
 use Rattle.ckpt_step.specs.Floors.{AreLivesOn, Follows}
 use Rattle.ckpt_step.specs.Giving.{CheckpointsHaveNewest, HasNewest}
 use Rattle.ckpt_step.specs.Grounds.{AreLedTo, AreRoots, StandsOn, number_of}
-use Rattle.ckpt_step.specs.Laws.{CheckpointsOpen}
-use Rattle.ckpt_step.specs.Plain.{IsPlain}
 use Rattle.ckpt_step.specs.Rooms.{known_in}
 use Rattle.ckpt_step.specs.Takes.{Fallen, NotTaken, Taken, Takes, WhyNot}
 use Rattle.engine_store.specs.declared.eviction.Clock.{Clock}
@@ -45,6 +45,7 @@ use Rattle.engine_store.specs.Held.{Checkpoints, CheckpointsOn, IsGrounded, IsHe
 use Rattle.engine_store.specs.Images.{OpensToAny, OpensToLast, OpensToOne}
 use Rattle.engine_store.specs.Relieves.{IsRelieved, LetsGo}
 use Rattle.engine_store.proofs.Contents.{number_read, numbered, still_reads}
+use Rattle.engine_store.proofs.CutShelves.{cut, cut_past, follows_cut, kept_cut, stands_cut}
 use Rattle.engine_store.proofs.NoLives.{none_on}
 use Rattle.engine_store.proofs.OtherRecords.{held_kept}
 use Rattle.engine_store.proofs.Installing.{any_last, any_more, any_one, last_opens, one_last, one_more, past_later, past_more, pending_last, stays_more, stays_on}
@@ -80,12 +81,13 @@ module _ {D : Type 0} (g : Ghosts D) (start_disk before after : D)
   last_on kept (inr (pending, there, each)) = inr (pending, there, λ c left. old_opens c (old_now kept c left))
 
   -- nothing was installed
-  pub kept_held : (next : World) → Stands s'.engine next → KeepsThese next s'.ground.kept → next.machine.checkpoint ≡ None → next.machine.completed ≡ w.machine.completed → KeptAll
+  pub kept_held : (next : World) → Stands s'.engine next → KeepsThese next s'.ground.kept → ((id : ℕ) → s'.engine.hub.dir.next ≤ id → next.shelf id ≡ []) → next.machine.checkpoint ≡ None → next.machine.completed ≡ w.machine.completed → KeptAll
       → (next.machine.fault ≡ None → StandsOn (g.seen after) (g.may_leave after) s'.engine.hub s'.ground grounded.old × Follows grounded.old s'.engine.hub s'.ground next × AreLivesOn (g.seen after) s'.engine.hub s'.ground next) → IsHeldIn g start_disk s' after next first made
-  kept_held next stands keeps idle same kept on = record {
+  kept_held next stands keeps bare idle same kept on = record {
     stands = stands;
     idle = idle;
     kept = keeps;
+    bare = bare;
     on = λ up. record { old = grounded.old; on = (on up).0; follows = (on up).1; since = (on up).2; opens = subst (λ (k : Completed). OpensAs (content_was grounded.old) k) (sym same) grounded.opens; one = grounded.one };
     images = λ c left. old_opens c (old_now kept c left);
     last = subst (λ (k : Completed). OpensToLast (g.may_leave after) first k made) (sym same) (last_on kept held.last);
@@ -114,12 +116,13 @@ module _ {D : Type 0} (g : Ghosts D) (start_disk before after : D)
         left (λ c either. one_of c (either_opens c either))
 
     -- each image has it
-    done_held : (next : World) → Stands s'.engine next → KeepsThese next s'.ground.kept → next.machine.checkpoint ≡ None → own.at ≡ g.moment after → next.machine.completed ≡ own.checkpoint → Each (g.may_leave after) (λ c. IsOn c new)
+    done_held : (next : World) → Stands s'.engine next → KeepsThese next s'.ground.kept → ((id : ℕ) → s'.engine.hub.dir.next ≤ id → next.shelf id ≡ []) → next.machine.checkpoint ≡ None → own.at ≡ g.moment after → next.machine.completed ≡ own.checkpoint → Each (g.may_leave after) (λ c. IsOn c new)
         → StandsOn (g.seen after) (g.may_leave after) s'.engine.hub s'.ground (Some new) → Follows (Some new) s'.engine.hub s'.ground next → s'.ground.lives ≡ [] → OpensAs (content_of new) own.checkpoint → IsHeldIn g start_disk s' after next first (made ++ own ∷ [])
-    done_held next stands keeps idle now same each on follows none new_opens = record {
+    done_held next stands keeps bare idle now same each on follows none new_opens = record {
       stands = stands;
       idle = idle;
       kept = keeps;
+      bare = bare;
       on = λ up. record {
         old = Some new;
         on = on;
@@ -137,13 +140,14 @@ module _ {D : Type 0} (g : Ghosts D) (start_disk before after : D)
     }
 
     -- a fault at its gate stopped it
-    gate_held : (next : World) → Stands s'.engine next → KeepsThese next s'.ground.kept → next.machine.checkpoint ≡ None → own.at ≡ g.moment after → own.refused ≡ Some DiskFault → (next.machine.fault ≡ None → ⊥) → IsHeldIn g start_disk s' after next first (made ++ own ∷ [])
-    gate_held next stands keeps idle now stopped down =
+    gate_held : (next : World) → Stands s'.engine next → KeepsThese next s'.ground.kept → ((id : ℕ) → s'.engine.hub.dir.next ≤ id → next.shelf id ≡ []) → next.machine.checkpoint ≡ None → own.at ≡ g.moment after → own.refused ≡ Some DiskFault → (next.machine.fault ≡ None → ⊥) → IsHeldIn g start_disk s' after next first (made ++ own ∷ [])
+    gate_held next stands keeps bare idle now stopped down =
         let images : Each (g.may_leave after) (OpensToAny (may_open_to (first ∷ []) (made ++ own ∷ []))) = λ c image. any_of DiskFault stopped c (either_opens c (left.each c (counts left.later c image))) in
         record {
           stands = stands;
           idle = idle;
           kept = keeps;
+          bare = bare;
           on = λ up. absurd (down up);
           images = images;
           last = inr (own.checkpoint, pending_last made own stopped, images);
@@ -158,7 +162,7 @@ module _ {D : Type 0} (g : Ghosts D) (start_disk before after : D)
 
   -- ---- by what the checkpoint answers
 
-  module _ (kept_same : s'.ground.kept ≡ s.ground.kept) (count : g.faults before ≤ g.faults after) (room : g.capacity after ≡ g.capacity before) (law : CheckpointsOpen) (downs : DownsGo) (plain : IsPlain w.machine) where
+  module _ (kept_same : s'.ground.kept ≡ s.ground.kept) (count : g.faults before ≤ g.faults after) (room : g.capacity after ≡ g.capacity before) (law : ReadCheckpointsOpen) (downs : DownsGo) where
     abbrev m : Machine
     m = w.machine
 
@@ -202,7 +206,7 @@ module _ {D : Type 0} (g : Ghosts D) (start_disk before after : D)
 
     module _ (new : Stored) (checkpoint : IsCheckpointOf m number new) where
       new_opens : (c : List ℕ) → IsOn c new → OpensAs (content_of new) (checkpointed m).completed
-      new_opens c on = law m number new held.stands.valid on.whole.is_record plain.suffice checkpoint
+      new_opens c on = law c m number new held.stands.valid on checkpoint
 
       opens_new : (c : List ℕ) → IsOn c new → Opens c (checkpointed m).completed
       opens_new c on = (content_of new, inr (new, on, refl), new_opens c on)
@@ -218,17 +222,29 @@ module _ {D : Type 0} (g : Ghosts D) (start_disk before after : D)
       pub taken_follows : Follows (Some t.new) e.hub stand later
       taken_follows = subst (λ (x : Engine). Follows (Some t.new) x.hub stand later) (sym t.same) t.follows
 
-      pub taken : (r : IsRelieved (g.seen after) (g.may_leave after) (Some t.new) later s') → CheckpointsOn g start_disk w first made s s' before after r.shelf (Ok tt)
-      taken r = record {
-        next = checkpointed m;
-        now = made ++ installed None ∷ [];
-        behind = record { later = is_later t.leaves.later; capacity = room; has = (t.new, number, t.is, t.on.stands.seen_has) };
-        takes = inr (number, Ok tt, counted, t.may, record { storing = StoredWhole; takes = (s.engine.hub.dir.leaves, known_in s.ground.parts, parted, t.had_room); told = refl; leaves = refl });
-        installs = refl;
-        held = held_kept g start_disk after s' (record w { machine = checkpointed m; shelf = r.shelf }) first (made ++ installed None ∷ []) (done_held t.new (installed None) (opens_new t.new t.is) t.leaves (record w { machine = checkpointed m; shelf = r.shelf }) r.stands keeps_still refl refl refl t.each r.on r.follows r.none (new_opens t.new t.is (g.seen after) t.on.stands.seen_has));
-        plain = record { idle = refl; suffice = λ table key. record { reached = (plain.suffice table key).reached } };
-        none = λ was. r.none;
-      }
+      -- with this on the shelf
+      module _ (shelf : ℕ → List Row) (stands : Stands s'.engine (record w { machine = checkpointed m; shelf = shelf })) (keeps : KeepsThese (record w { machine = checkpointed m; shelf = shelf }) s'.ground.kept) (bare : (id : ℕ) → s'.engine.hub.dir.next ≤ id → shelf id ≡ [])
+          (on : StandsOn (g.seen after) (g.may_leave after) s'.engine.hub s'.ground (Some t.new)) (follows : Follows (Some t.new) s'.engine.hub s'.ground (record w { machine = checkpointed m; shelf = shelf })) (none_left : s'.ground.lives ≡ []) where
+        pub taken_with : CheckpointsOn g start_disk w first made s s' before after shelf (Ok tt)
+        taken_with = record {
+          next = checkpointed m;
+          now = made ++ installed None ∷ [];
+          behind = record { later = is_later t.leaves.later; capacity = room; has = (t.new, number, t.is, t.on.stands.seen_has) };
+          takes = inr (number, Ok tt, counted, t.may, record { storing = StoredWhole; takes = (s.engine.hub.dir.leaves, known_in s.ground.parts, parted, t.had_room); told = refl; leaves = refl });
+          installs = refl;
+          held = held_kept g start_disk after s' (record w { machine = checkpointed m; shelf = shelf }) first (made ++ installed None ∷ []) (done_held t.new (installed None) (opens_new t.new t.is) t.leaves (record w { machine = checkpointed m; shelf = shelf }) stands keeps bare refl refl refl t.each
+              on follows none_left (new_opens t.new t.is (g.seen after) t.on.stands.seen_has));
+          none = λ was. none_left;
+        }
+
+      -- those that left have new ids, from which on the shelf had nothing
+      pub taken : (r : IsRelieved (g.seen after) (g.may_leave after) (Some t.new) s.engine.hub.dir.next later s') → CheckpointsOn g start_disk w first made s s' before after (cut s'.engine.hub.dir.next r.shelf) (Ok tt)
+      taken r =
+          let relieved : World = record w { machine = checkpointed m; shelf = r.shelf } in
+          let n = s'.engine.hub.dir.next in
+          taken_with (cut n r.shelf) (stands_cut s'.engine relieved r.stands)
+          (subst (λ (l : Lists). KeepsThese (record w { machine = checkpointed m; shelf = cut n r.shelf }) l) (sym kept_same) (kept_cut s.engine w s.ground.kept held.stands held.kept held.bare r.shelf n r.ids r.same))
+          (λ id late. cut_past n r.shelf id late) r.on (follows_cut (Some t.new) s'.engine.hub s'.ground relieved r.stands.dir r.follows) r.none
 
     refused_by : (r : Refusal) → WhyNot (Rose (g.faults before) (g.faults after)) (g.seen before) (g.capacity before) s.ground.lives s.engine.hub.dir.leaves (known_in s.ground.parts) m number r → CheckpointTakes s.ground.lives (device_of g before) (device_of g after) m (Refused r) m
     refused_by r (inl barred) = inr (number, Err r, counted, barred, (refl, refl))
@@ -247,13 +263,12 @@ module _ {D : Type 0} (g : Ghosts D) (start_disk before after : D)
       behind = record { later = is_later n.leaves.later; capacity = room; has = λ up. (grounded.old, grounded.on.stands.seen_has, n.on.stands.seen_has) };
       takes = refused_by r n.why;
       installs = inl refl;
-      held = held_kept g start_disk after s' w first made (kept_held w (subst (λ (e : Engine). Stands e w) (sym n.same) held.stands) keeps_still held.idle refl n.leaves
+      held = held_kept g start_disk after s' w first made (kept_held w (subst (λ (e : Engine). Stands e w) (sym n.same) held.stands) keeps_still (λ id late. held.bare id (subst (λ (e : Engine). e.hub.dir.next ≤ id) n.same late)) held.idle refl n.leaves
           (λ up. (
             subst (λ (e : Engine). StandsOn (g.seen after) (g.may_leave after) e.hub s'.ground grounded.old) (sym n.same) n.on,
             subst (λ (e : Engine). Follows grounded.old e.hub s'.ground w) (sym n.same) n.follows,
             subst (λ (e : Engine). AreLivesOn (g.seen after) e.hub s'.ground w) (sym n.same) n.since,
           )));
-      plain = plain;
       none = λ none. lives ∙ none;
     }
 
@@ -267,8 +282,8 @@ module _ {D : Type 0} (g : Ghosts D) (start_disk before after : D)
       fell_takes : CheckpointTakes s.ground.lives (device_of g before) (device_of g after) m (Refused DiskFault) down
       fell_takes = inr (number, Ok tt, counted, may, record { storing = WriteFailed fault; takes = rose; told = refl; leaves = refl })
 
-      fell_plain : IsPlain down
-      fell_plain = record { idle = held.idle; suffice = λ table key. record { reached = (plain.suffice table key).reached } }
+      fell_bare : (id : ℕ) → s'.engine.hub.dir.next ≤ id → w.shelf id ≡ []
+      fell_bare id late = held.bare id (subst (λ (e : Engine). e.hub.dir.next ≤ id) is late)
 
       not_up : down.fault ≡ None → ⊥
       not_up up = let e : Some fault ≡ None = up in cc
@@ -280,8 +295,7 @@ module _ {D : Type 0} (g : Ghosts D) (start_disk before after : D)
         behind = record { later = is_later kept.later; capacity = room; has = λ up. absurd (not_up up) };
         takes = fell_takes;
         installs = inl refl;
-        held = held_kept g start_disk after s' (record w { machine = down }) first made (kept_held (record w { machine = down }) fell_stands keeps_still held.idle refl kept (λ up. absurd (not_up up)));
-        plain = fell_plain;
+        held = held_kept g start_disk after s' (record w { machine = down }) first made (kept_held (record w { machine = down }) fell_stands keeps_still fell_bare held.idle refl kept (λ up. absurd (not_up up)));
         none = λ none. lives ∙ none;
       }
 
@@ -292,8 +306,7 @@ module _ {D : Type 0} (g : Ghosts D) (start_disk before after : D)
         behind = record { later = is_later left.later; capacity = room; has = λ up. absurd (not_up up) };
         takes = fell_takes;
         installs = inr (refl, (fault, refl), refl);
-        held = held_kept g start_disk after s' (record w { machine = down }) first (made ++ installed (Some DiskFault) ∷ []) (gate_held new (installed (Some DiskFault)) (opens_new new checkpoint) left (record w { machine = down }) fell_stands keeps_still held.idle refl refl not_up);
-        plain = fell_plain;
+        held = held_kept g start_disk after s' (record w { machine = down }) first (made ++ installed (Some DiskFault) ∷ []) (gate_held new (installed (Some DiskFault)) (opens_new new checkpoint) left (record w { machine = down }) fell_stands keeps_still fell_bare held.idle refl refl not_up);
         none = λ none. lives ∙ none;
       }
 
@@ -304,7 +317,8 @@ module _ {D : Type 0} (g : Ghosts D) (start_disk before after : D)
     ])
 
     pub by_takes : (result : Result (Unit {0}) Refusal) → OnErr result KeepsLives → Takes g grounded.old w s.ground s'.ground s.engine s'.engine before after result → Gives result
-    by_takes (Ok end) lives t = taken s'.ground s'.engine t (record { shelf = w.shelf; stands = t.stands; on = taken_on s'.ground s'.engine t; follows = taken_follows s'.ground s'.engine t; none = t.none })
+    by_takes (Ok end) lives t =
+        taken_with s'.ground s'.engine t w.shelf t.stands keeps_still (λ id late. held.bare id (subst (λ (e : Engine). e.hub.dir.next ≤ id) t.same late)) (taken_on s'.ground s'.engine t) (taken_follows s'.ground s'.engine t) t.none
     by_takes (Err r) lives (inl n) = not_taken r lives n
     by_takes (Err r) lives (inr f) = fallen r lives f
 
@@ -321,6 +335,7 @@ module _ {D : Type 0} (g : Ghosts D) (start_disk disk : D) (image : g.may_leave 
     stands = held.stands;
     idle = held.idle;
     kept = held.kept;
+    bare = held.bare;
     on = λ up. let x = held.on up in record { old = x.old; on = x.on; follows = x.follows; since = x.since; opens = x.opens; one = x.one };
     images = held.images;
     last = held.last;
@@ -329,28 +344,27 @@ module _ {D : Type 0} (g : Ghosts D) (start_disk disk : D) (image : g.may_leave 
     past = held.past;
   }
 
-  refused_down : (n : Frames) (k : Clock) (fault : Fault) → w.machine.fault ≡ Some fault → IsPlain w.machine → CheckpointsOn g start_disk w first made s (record s { frames = n; clock = k }) disk disk w.shelf (Err (Panic fault))
-  refused_down n k fault down plain = record {
+  refused_down : (n : Frames) (k : Clock) (fault : Fault) → w.machine.fault ≡ Some fault → CheckpointsOn g start_disk w first made s (record s { frames = n; clock = k }) disk disk w.shelf (Err (Panic fault))
+  refused_down n k fault down = record {
     next = w.machine;
     now = made;
     behind = record { later = record { faults = omega arith; moment = omega arith }; capacity = refl; has = λ up. absurd (not_both up) };
     takes = inr (number_held.0, Err (Panic fault), number_held.1, decided-down w.machine 0 (StartCall number_held.0) fault down refl, (refl, refl));
     installs = inl refl;
     held = held_kept g start_disk disk (record s { frames = n; clock = k }) w first made (clock_held n k);
-    plain = plain;
     none = λ none. none;
   }
     where
       not_both : w.machine.fault ≡ None → ⊥
       not_both up = let e : None ≡ Some fault = sym up ∙ down in cc
 
-  pub by_down : (s' : Store) (after : D) (result : Result (Unit {0}) Refusal) (fault : Fault) → w.machine.fault ≡ Some fault → IsPlain w.machine → result ≡ Err (Panic fault) → s' ≡ record s { frames = s'.frames; clock = s'.clock } → after ≡ disk
+  pub by_down : (s' : Store) (after : D) (result : Result (Unit {0}) Refusal) (fault : Fault) → w.machine.fault ≡ Some fault → result ≡ Err (Panic fault) → s' ≡ record s { frames = s'.frames; clock = s'.clock } → after ≡ disk
       → CheckpointsOn g start_disk w first made s s' disk after w.shelf result
-  by_down s' after result fault down plain is same still =
+  by_down s' after result fault down is same still =
       subst (λ (d : D). CheckpointsOn g start_disk w first made s s' disk d w.shelf result) (sym still)
       (subst (λ (x : Store). CheckpointsOn g start_disk w first made s x disk disk w.shelf result) (sym same)
       (subst (λ (r : Result (Unit {0}) Refusal). CheckpointsOn g start_disk w first made s (record s { frames = s'.frames; clock = s'.clock }) disk disk w.shelf r) (sym is)
-      (refused_down s'.frames s'.clock fault down plain)))
+      (refused_down s'.frames s'.clock fault down)))
 
 -- ---- of either
 
@@ -363,16 +377,16 @@ same_store s s' engine place =
 module _ {D : Type 0} (g : Ghosts D) (start_disk before after : D)
     (counts : g.moment before ≤ g.moment after → (c : List ℕ) → g.may_leave after c → g.left_since after (g.moment before) c) (only : (c : List ℕ) → g.left_since after (g.moment after) c → g.may_leave after c)
     (image : g.may_leave before (g.seen before)) (s s' : Store) (w : World) (first : Completed) (made : List Installed) (held : IsHeldIn g start_disk s before w first made)
-    (count : g.faults before ≤ g.faults after) (room : g.capacity after ≡ g.capacity before) (law : CheckpointsOpen) (downs : DownsGo) (plain : IsPlain w.machine) (result : Result (Unit {0}) Refusal)
+    (count : g.faults before ≤ g.faults after) (room : g.capacity after ≡ g.capacity before) (law : ReadCheckpointsOpen) (downs : DownsGo) (result : Result (Unit {0}) Refusal)
     (takes : (old : Option Stored) → StandsOn (g.seen before) (g.may_leave before) s.engine.hub s.ground old → Follows old s.engine.hub s.ground w → AreLivesOn (g.seen before) s.engine.hub s.ground w → Takes g old w s.ground s'.ground s.engine s'.engine before after result)
     (down : (fault : Fault) → s.engine.hub.fault ≡ Some fault → (result ≡ Err (Panic fault)) × (s'.engine ≡ s.engine) × (s'.ground ≡ s.ground) × (after ≡ before)) (lives : OnErr result (s'.ground.lives ≡ s.ground.lives)) (kept : s'.ground.kept ≡ s.ground.kept) where
   by_fault : (f : Option Fault) → w.machine.fault ≡ f → CheckpointsOn g start_disk w first made s s' before after w.shelf result
   by_fault None up =
       let on = held.on up in
-      by_takes g start_disk before after counts only image s s' w first made held on kept count room law downs plain result lives (takes on.old on.on on.follows on.since)
+      by_takes g start_disk before after counts only image s s' w first made held on kept count room law downs result lives (takes on.old on.on on.follows on.since)
   by_fault (Some fault) is =
       let told = down fault (held.stands.fault ∙ is) in
-      by_down g start_disk before image s w first made held s' after result fault is plain told.0 (same_store s s' told.1 told.2) told.3
+      by_down g start_disk before image s w first made held s' after result fault is told.0 (same_store s s' told.1 told.2) told.3
 
   pub checkpoints_by : Checkpoints g start_disk w first made s s' before after result
   checkpoints_by = (w.shelf, by_fault w.machine.fault refl)
@@ -387,20 +401,24 @@ newest_taken m s newest t place tree has = let rows = newest t place tree has in
 module _ {D : Type 0} (g : Ghosts D) (start_disk before after : D)
     (counts : g.moment before ≤ g.moment after → (c : List ℕ) → g.may_leave after c → g.left_since after (g.moment before) c) (only : (c : List ℕ) → g.left_since after (g.moment after) c → g.may_leave after c)
     (image : g.may_leave before (g.seen before)) (s s' : Store) (w : World) (first : Completed) (made : List Installed) (held : IsHeldIn g start_disk s before w first made)
-    (count : g.faults before ≤ g.faults after) (room : g.capacity after ≡ g.capacity before) (law : CheckpointsOpen) (downs : DownsGo) (plain : IsPlain w.machine) (have : CheckpointsHaveNewest) (stand : Ground) (e : Engine)
+    (count : g.faults before ≤ g.faults after) (room : g.capacity after ≡ g.capacity before) (law : ReadCheckpointsOpen) (downs : DownsGo) (have : CheckpointsHaveNewest) (stand : Ground) (e : Engine)
     (takes : (old : Option Stored) → StandsOn (g.seen before) (g.may_leave before) s.engine.hub s.ground old → Follows old s.engine.hub s.ground w → AreLivesOn (g.seen before) s.engine.hub s.ground w → Taken g old w s.ground stand s.engine e before after)
     (up : (fault : Fault) → s.engine.hub.fault ≡ Some fault → ⊥) (n : Frames) (k : Clock) (goes : LetsGo g (record { engine = e; ground = stand; frames = n; clock = k }) s') (kept : stand.kept ≡ s.ground.kept) where
+  -- the engine that was checkpointed is the same
+  of_first : {seen : List ℕ} {images : List ℕ → Type 0} {old : Option Stored} {v : World} → e ≡ s.engine → IsRelieved seen images old e.hub.dir.next v s' → IsRelieved seen images old s.engine.hub.dir.next v s'
+  of_first {seen} {images} {old} {v} same r = subst (λ (x : Engine). IsRelieved seen images old x.hub.dir.next v s') same r
+
   by_up : (f : Option Fault) → w.machine.fault ≡ f → Checkpoints g start_disk w first made s s' before after (Ok tt)
   by_up (Some fault) is = absurd (up fault (held.stands.fault ∙ is))
   by_up None is =
       let on = held.on is in
       let t = takes on.old on.on on.follows on.since in
-      let r = goes.relieves after (Some t.new) (record w { machine = checkpointed w.machine }) t.stands refl
-      (taken_on g start_disk before after counts only image s s' w first made held on (goes.kept ∙ kept) count room law downs plain stand e t)
-      (taken_follows g start_disk before after counts only image s s' w first made held on (goes.kept ∙ kept) count room law downs plain stand e t)
+      let r = of_first t.same (goes.relieves after (Some t.new) (record w { machine = checkpointed w.machine }) t.stands refl
+      (taken_on g start_disk before after counts only image s s' w first made held on (goes.kept ∙ kept) count room law downs stand e t)
+      (taken_follows g start_disk before after counts only image s s' w first made held on (goes.kept ∙ kept) count room law downs stand e t)
       t.none
-      (newest_taken w.machine t.new (have w.machine (number_of on.old) t.new t.is)) in
-      (r.shelf, taken g start_disk before after counts only image s s' w first made held on (goes.kept ∙ kept) count room law downs plain stand e t r)
+      (newest_taken w.machine t.new (have w.machine (number_of on.old) t.new t.is))) in
+      (cut s'.engine.hub.dir.next r.shelf, taken g start_disk before after counts only image s s' w first made held on (goes.kept ∙ kept) count room law downs stand e t r)
 
   pub relieved_by : Checkpoints g start_disk w first made s s' before after (Ok tt)
   relieved_by = by_up w.machine.fault refl

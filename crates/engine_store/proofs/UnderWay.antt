@@ -17,7 +17,8 @@ use Rattle.engine.specs.declared.called.Called.TheVariants as called
 use Rattle.engine.specs.Waits.{WaitsAs, waits_in}
 use Rattle.engine.specs.Whole.{CallsIn, CallsKept, CallsTo, IsUnderWay, KeptBy, ResumesTo}
 use Rattle.engine.proofs.Waited.{filling, held}
-use Rattle.evict_step.specs.Kept.{Lists}
+use Rattle.row_page.specs.Rows.{Row}
+use Rattle.evict_step.specs.Kept.{Lists, older_in}
 use Rattle.ckpt_step.specs.Floors.{laid_of}
 use Rattle.engine_store.specs.declared.frames.Frames.{Frames}
 use Rattle.engine_store.specs.declared.store.Store.{Store}
@@ -26,6 +27,15 @@ use Rattle.engine_store.specs.Keeping.{with_kept}
 use Rattle.engine_store.proofs.Fetching.{rose_since}
 use Rattle.engine_store.proofs.Going.{laid_calls}
 use Rattle.engine_store.proofs.OtherRecords.{calls_other, other_records, out_other, stands_other, under_other}
+
+-- with the same on the shelf the history has the same of what is kept
+kept_alike : (lists : Lists) (w now : World) → now.shelf ≡ w.shelf → other_records (with_kept lists w).records now ≡ with_kept lists now
+kept_alike lists w now same = ap (λ (shelf : ℕ → List Row). other_records (older_in shelf lists) now) (sym same)
+
+-- a call that is under way in a world is so in that in which the history has what is kept
+under_with : (kept : KeptBy) (lists : Lists) (w now : World) (session : ℕ) (asked : Call) → IsUnderWay kept w session asked now → IsUnderWay kept (with_kept lists w) session asked (with_kept lists now)
+under_with kept lists w now session asked under =
+    subst (λ (x : World). IsUnderWay kept (with_kept lists w) session asked x) (kept_alike lists w now (ap (λ (x : World). x.shelf) under.moved_to)) (under_other (with_kept lists w).records kept w now session asked under)
 
 -- nothing was kept from a call that waits for a leaf
 pub under_none : (kept : KeptBy) (e : Engine) (lists : Lists) (w now : World) (session leaf : ℕ) (asked : Call) → IsUnderWay kept w session asked now → Stands e (with_kept lists now) → waits_in e session ≡ Some leaf → IsUnderWay None w session asked now
@@ -104,10 +114,10 @@ module _ {D : Type 0} (g : Ghosts D) (frames : Frames) where
       → ((kept : KeptBy) (x : World) → IsUnderWay kept (with_kept lists w) session asked x → Stands e x → ResumesTo called e' kept (with_kept lists w) session asked) → IsUnderWay None w session asked now → e'.hub.fault ≡ w.machine.fault → WaitsAs called e' session → CallsBy g first disk frames called e' lists w session asked
   calls_go first disk e e' lists w now session asked (Ok done) called stands resumes under fault waits =
       calls_resumed first disk called e' lists None w session asked under.rests (never_kept first disk w session asked) fault waits
-      (resumes None (with_kept lists now) (under_other (with_kept lists w).records None w now session asked under) stands)
+      (resumes None (with_kept lists now) (under_with None lists w now session asked under) stands)
   calls_go first disk e e' lists w now session asked (Err r) called (cause, later, out, stands) resumes under fault waits =
       calls_resumed first disk called e' lists (Some r) w session asked under.rests (kept_by first disk w now session asked r under cause) fault waits
-      (resumes (Some r) (with_kept lists later) (under_other (with_kept lists w).records (Some r) w later session asked out) stands)
+      (resumes (Some r) (with_kept lists later) (under_with (Some r) lists w later session asked out) stands)
 
 -- ---- a leaf is kept from a call
 
@@ -117,7 +127,7 @@ still_stands s s' now engine kept stands =
     subst (λ (e : Engine). Stands e (with_kept s'.ground.kept now)) (sym engine) (subst (λ (lists : Lists). Stands s.engine (with_kept lists now)) (sym kept) stands)
 
 pub under_kept : (lists : Lists) (w now : World) (session : ℕ) (asked : Call) → IsUnderWay None w session asked now → IsUnderWay None (with_kept lists w) session asked (with_kept lists now)
-under_kept lists w now session asked under = under_other (with_kept lists w).records None w now session asked under
+under_kept lists w now session asked under = under_with None lists w now session asked under
 
 -- a step of the world in which the history has what is kept is one of the world itself
 pub comes_not : (Caused : Refusal → Type 0) (e : Engine) (lists : Lists) (now : World) (session : ℕ) (r : Refusal) → Caused r → (later : World) × MayKeepOut (with_kept lists now) session r later × Stands e later → ComesOrNot Caused e lists now session (Err r)

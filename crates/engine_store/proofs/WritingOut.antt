@@ -27,7 +27,6 @@ use Rattle.engine.specs.Checkpoints.{MayStart, started_as}
 use Rattle.evict_step.specs.Kept.{KeepsThese, Lists}
 use Rattle.ckpt_step.specs.Floors.{AreLivesOn, Follows}
 use Rattle.ckpt_step.specs.Grounds.{StandsOn, number_of}
-use Rattle.ckpt_step.specs.Plain.{IsPlain}
 use Rattle.ckpt_step.specs.Trees.{AreLow}
 use Rattle.ckpt_step.specs.WritesOut.{FallenOut, LeavesEngine, NotWritten, WhyNotOut, WritesOut as LeafWritesOut, WrittenOut}
 use Rattle.engine_store.specs.declared.store.Store.{Store}
@@ -37,6 +36,7 @@ use Rattle.engine_store.specs.Opened.{IsReady}
 use Rattle.engine_store.specs.Relieves.{StaysAlike}
 use Rattle.engine_store.specs.WritesOut.{WhyNoMore, WritesAlike, WritesFrom, WritesOut, WroteDown, WroteOn, WroteUp, is_short}
 use Rattle.engine_store.proofs.Contents.{numbered, one_number}
+use Rattle.engine_store.proofs.CutShelves.{cut, cut_past, follows_cut, kept_cut, on_cut, stands_cut}
 use Rattle.engine_store.proofs.OtherRecords.{held_kept}
 use Rattle.engine_store.proofs.Taking.{clock_held, kept_held, same_store}
 
@@ -67,14 +67,10 @@ barred_down m number fault r fell barred = same_refusal (sym barred ∙ decided-
     same_refusal : started_as (Err r) ≡ started_as (Err (Panic fault)) → r ≡ Panic fault
     same_refusal e = let f : NotDone r ≡ NotDone (Panic fault) = ap (λ (d : Outcome × Event). d.0) e in cc
 
--- where no commit had a stamp, none has one in a machine that went down
-pub plain_down : (m : Machine) (fault : Fault) → IsPlain m → IsPlain (after_event m (GoDown fault))
-plain_down m fault plain = record { idle = plain.idle; suffice = λ table key. record { reached = (plain.suffice table key).reached } }
-
 module _ {D : Type 0} (g : Ghosts D) (start_disk before after : D)
     (counts : g.moment before ≤ g.moment after → (c : List ℕ) → g.may_leave after c → g.left_since after (g.moment before) c) (only : (c : List ℕ) → g.left_since after (g.moment after) c → g.may_leave after c)
     (image : g.may_leave before (g.seen before)) (s s' : Store) (w : World) (first : Completed) (made : List Installed) (held : IsHeldIn g start_disk s before w first made)
-    (disk : SameDisk g before after) (downs : DownsGo) (kept : s'.ground.kept ≡ s.ground.kept) (plain : IsPlain w.machine) where
+    (disk : SameDisk g before after) (downs : DownsGo) (kept : s'.ground.kept ≡ s.ground.kept) where
   -- what is kept is what it was
   keeps_still : KeepsThese w s'.ground.kept
   keeps_still = subst (λ (l : Lists). KeepsThese w l) (sym kept) held.kept
@@ -95,27 +91,31 @@ module _ {D : Type 0} (g : Ghosts D) (start_disk before after : D)
     keeps now = record { capacity = disk.room; checkpoint = still_later (g.seen before) (g.seen after) grounded.old grounded.on.stands.seen_has now }
 
     -- with this on the shelf
-    went : (shelf : ℕ → List Row) → Kept → Stands s'.engine (record w { shelf = shelf }) → StandsOn (g.seen after) (g.may_leave after) s'.engine.hub s'.ground grounded.old → Follows grounded.old s'.engine.hub s'.ground (record w { shelf = shelf })
+    went : (shelf : ℕ → List Row) → Kept → Stands s'.engine (record w { shelf = shelf }) → KeepsThese (record w { shelf = shelf }) s'.ground.kept → ((id : ℕ) → s'.engine.hub.dir.next ≤ id → shelf id ≡ []) → StandsOn (g.seen after) (g.may_leave after) s'.engine.hub s'.ground grounded.old → Follows grounded.old s'.engine.hub s'.ground (record w { shelf = shelf })
         → AreLivesOn (g.seen after) s'.engine.hub s'.ground (record w { shelf = shelf }) → WroteUp g start_disk w first made s s' before after
-    went shelf left stands on follows since = record {
+    went shelf left stands keeps_these bare on follows since = record {
       shelf = shelf;
       wrote = record {
         later = is_later left;
         capacity = disk.room;
-        held = held_kept g start_disk after s' (record w { shelf = shelf }) first made (kept_held g start_disk before after counts only image s s' w first made held grounded (record w { shelf = shelf }) stands keeps_still held.idle refl left (λ up. (on, follows, since)));
-        plain = plain;
+        held = held_kept g start_disk after s' (record w { shelf = shelf }) first made (kept_held g start_disk before after counts only image s s' w first made held grounded (record w { shelf = shelf }) stands keeps_these bare held.idle refl left (λ up. (on, follows, since)));
       };
       keeps = keeps on.stands.seen_has;
     }
 
     -- the leaf gave way
     gave : (id : ℕ) → WrittenOut g grounded.old w s.ground s'.ground s.engine s'.engine id before after → WroteUp g start_disk w first made s s' before after
-    gave id x = went x.still.shelf x.left x.stands x.still.on x.still.follows x.still.since
+    gave id x =
+        let v : World = record w { shelf = x.still.shelf } in
+        let n = s'.engine.hub.dir.next in
+        let keeps_these = subst (λ (l : Lists). KeepsThese (record w { shelf = cut n x.still.shelf }) l) (sym kept) (kept_cut s.engine w s.ground.kept held.stands held.kept held.bare x.still.shelf n x.ids x.still.shelved.others) in
+        went (cut n x.still.shelf) x.left (stands_cut s'.engine v x.stands) keeps_these (λ other late. cut_past n x.still.shelf other late)
+        x.still.on (follows_cut grounded.old s'.engine.hub s'.ground v x.stands.dir x.still.follows) (on_cut (g.seen after) s'.engine.hub s'.ground v x.stands.dir x.still.since)
 
     -- it stays
     stays : (id : ℕ) → NotWritten g grounded.old w s.ground s'.ground s.engine s'.engine id before after → WroteUp g start_disk w first made s s' before after
     stays id n =
-        went w.shelf n.left (subst (λ (e : Engine). Stands e w) (sym n.same) held.stands) (subst (λ (e : Engine). StandsOn (g.seen after) (g.may_leave after) e.hub s'.ground grounded.old) (sym n.same) n.on)
+        went w.shelf n.left (subst (λ (e : Engine). Stands e w) (sym n.same) held.stands) keeps_still (λ other late. held.bare other (subst (λ (e : Engine). e.hub.dir.next ≤ other) n.same late)) (subst (λ (e : Engine). StandsOn (g.seen after) (g.may_leave after) e.hub s'.ground grounded.old) (sym n.same) n.on)
         (subst (λ (e : Engine). Follows grounded.old e.hub s'.ground w) (sym n.same) n.follows) (subst (λ (e : Engine). AreLivesOn (g.seen after) e.hub s'.ground w) (sym n.same) n.since)
 
     -- a write failed
@@ -129,8 +129,7 @@ module _ {D : Type 0} (g : Ghosts D) (start_disk before after : D)
         later = is_later f.left;
         capacity = disk.room;
         held = held_kept g start_disk after s' (record w { machine = after_event w.machine (GoDown f.fault) }) first made (kept_held g start_disk before after counts only image s s' w first made held grounded (record w { machine = after_event w.machine (GoDown f.fault) })
-            (subst (λ (e : Engine). Stands e (record w { machine = after_event w.machine (GoDown f.fault) })) (sym f.down) (downs s.engine w f.fault held.stands)) keeps_still held.idle refl f.left (λ up. absurd (not_up f.fault up)));
-        plain = plain_down w.machine f.fault plain;
+            (subst (λ (e : Engine). Stands e (record w { machine = after_event w.machine (GoDown f.fault) })) (sym f.down) (downs s.engine w f.fault held.stands)) keeps_still (λ other late. held.bare other (subst (λ (e : Engine). e.hub.dir.next ≤ other) f.down late)) held.idle refl f.left (λ up. absurd (not_up f.fault up)));
       };
     }
       where
@@ -167,7 +166,7 @@ module _ {D : Type 0} (g : Ghosts D) (start_disk before after : D)
         (subst (λ (x : Store). WroteUp g start_disk w first made s x before before) (sym (same_store s s' engine ground))
         (record {
           shelf = w.shelf;
-          wrote = record { later = record { faults = omega arith; moment = omega arith }; capacity = refl; held = held_kept g start_disk before (record s { frames = s'.frames; clock = s'.clock }) w first made (clock_held g start_disk before image s w first made held s'.frames s'.clock); plain = plain };
+          wrote = record { later = record { faults = omega arith; moment = omega arith }; capacity = refl; held = held_kept g start_disk before (record s { frames = s'.frames; clock = s'.clock }) w first made (clock_held g start_disk before image s w first made held s'.frames s'.clock) };
           keeps = record { capacity = refl; checkpoint = λ o has. has };
         }))
 
@@ -221,9 +220,9 @@ ready_alike s s' alike ready = record {
 
 module _ {D : Type 0} (g : Ghosts D) where
   pub none_wrote : (s : Store) (disk : D) → WritesFrom g s s disk disk (Ok tt)
-  none_wrote s disk honest start w first made held plain = record {
+  none_wrote s disk honest start w first made held = record {
     shelf = w.shelf;
-    wrote = record { later = record { faults = omega arith; moment = omega arith }; capacity = refl; held = held; plain = plain };
+    wrote = record { later = record { faults = omega arith; moment = omega arith }; capacity = refl; held = held };
     keeps = record { capacity = refl; checkpoint = λ o has. has };
   }
 
@@ -266,7 +265,6 @@ module _ {D : Type 0} (g : Ghosts D) where
         later = record { faults = (let one = front.wrote.later.faults in let two = x.later.faults in omega (arith, one, two)); moment = (let one = front.wrote.later.moment in let two = x.later.moment in omega (arith, one, two)) };
         capacity = x.capacity ∙ front.wrote.capacity;
         held = x.held;
-        plain = x.plain;
       }
 
       up_then : WroteUp g start v first made b c mid after → WroteUp g start w first made a c before after
@@ -300,9 +298,9 @@ module _ {D : Type 0} (g : Ghosts D) where
       out_then (Err r) (inr x) = inr (record { is = x.is; rose = rose_then x.rose; fault = x.fault; shelf = x.shelf; wrote = on_then x.shelf (after_event w.machine (GoDown x.fault)) x.wrote })
 
     pub then_wrote : (result : Result (Unit {0}) Refusal) → g.honest mid ≡ g.honest before → WritesFrom g a b before mid (Ok tt) → WritesFrom g b c mid after result → WritesFrom g a c before after result
-    then_wrote result same one two honest start w first made held plain =
-        let front = one honest start w first made held plain in
-        out_then start w first made held front result (two (same ∙ honest) start (record w { shelf = front.shelf }) first made front.wrote.held plain)
+    then_wrote result same one two honest start w first made held =
+        let front = one honest start w first made held in
+        out_then start w first made held front result (two (same ∙ honest) start (record w { shelf = front.shelf }) first made front.wrote.held)
 
 -- so far
 pub record SoFar {D : Type 0} (g : Ghosts D) (a b : Store) (before now : D) : Type 0 where

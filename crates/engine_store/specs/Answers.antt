@@ -6,7 +6,7 @@ use Rattle.wt_code.specs.declared.answers.Answer.{Answer}
 use Rattle.wt_code.specs.declared.answers.Answer.TheVariants.{Done, Refused}
 use Rattle.wt_code.specs.declared.refusals.Refusal.{Refusal}
 use Rattle.wt_code.specs.declared.refusals.Refusal.TheVariants.{NoMemory, DiskFault, Limit as Refusal_Limit}
-use Rattle.wt_code.specs.declared.refusals.Limit.TheVariants.{Checkpoints, Image, Tables}
+use Rattle.wt_code.specs.declared.refusals.Limit.TheVariants.{Checkpoints, Tables}
 use Rattle.kv_model.specs.Machine.{Machine, Completed}
 use Rattle.kv_model.specs.Outside.{Storing}
 use Rattle.kv_model.specs.Closing.{after_all, last_stored}
@@ -20,8 +20,8 @@ use Rattle.engine_world.specs.Worlds.{World}
 use Rattle.engine.specs.Checkpoints.{MayStart}
 use Rattle.engine.specs.Closes.{unfinished_in}
 use Rattle.ckpt_step.specs.declared.lives.Lone.{Lone}
-use Rattle.ckpt_step.specs.Checkpoints.{IsCheckpointOf}
-use Rattle.engine_store.specs.Devices.{Device, Installed, IsLater, IsNumberOf, IsUsedUp, IsWide, MayTakeAt, last_number}
+use Rattle.ckpt_content.specs.Checkpoints.{IsCheckpointOf}
+use Rattle.engine_store.specs.Devices.{Device, Installed, IsLater, IsNumberOf, IsUsedUp, MayTakeAt, last_number}
 
 -- done, or refused
 abbrev pub answer_of : Result (Unit {0}) Refusal → Answer (List ℕ)
@@ -86,6 +86,5 @@ abbrev pub RefusesReopening : Device → Device → Refusal → Type 0
 RefusesReopening old new r =
     ((r ≡ DiskFault) × Rose old.faults new.faults)
     ⊎ ((r ≡ NoMemory)
-    ⊎ (((r ≡ Refusal_Limit Image) × IsWide old.seen)
     ⊎ (((r ≡ Refusal_Limit Tables) × IsUsedUp old.seen)
-    ⊎ ((r ≡ Refusal_Limit Checkpoints) × ((content : Content) → Reads old.seen content → content.run ≡ last_number)))))
+    ⊎ ((r ≡ Refusal_Limit Checkpoints) × ((content : Content) → Reads old.seen content → content.run ≡ last_number))))

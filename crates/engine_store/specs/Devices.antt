@@ -10,7 +10,6 @@ use Rattle.kv_model.specs.Machine.{Machine, Completed}
 use Rattle.kv_model.specs.Outside.{Storing, Stored, NoPlace, ReadFailed, Damaged, WriteFailed}
 use Rattle.stored.specs.Stored.{Stored as OnDevice, IsOn, IsBlank}
 use Rattle.checkpoint_core.specs.Stands.{HasStill}
-use Rattle.recover_open.specs.Bare.{IsBare}
 use Rattle.kv_model.specs.History.{tables}
 use Rattle.row_page.specs.Rows.{Row}
 use Rattle.tree_dir.specs.declared.leaf.Leaf.{Leaf}
@@ -74,10 +73,6 @@ last_number = 2 ^ 62 - 1
 -- the device's last completed checkpoint has this number
 abbrev pub IsNumberOf : List ℕ → ℕ → Type 0
 IsNumberOf bytes n = (IsBlank bytes × (n ≡ 0)) ⊎ ((slot : Slot) × Chooses bytes (Some slot) × (slot.sequence ≡ n))
-
--- the device has a checkpoint with a history
-abbrev pub IsWide : List ℕ → Type 0
-IsWide bytes = (s : OnDevice) × IsOn bytes s × (IsBare s.kept → ⊥)
 
 -- its next number leaves none for as many tables as an engine may have
 abbrev pub IsUsedUp : List ℕ → Type 0

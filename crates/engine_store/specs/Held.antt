@@ -5,23 +5,22 @@ use Rattle.disk_model.specs.Crash.{Each, LeavesOnly}
 use Rattle.disk_model.specs.declared.disk.Disk.{Ghosts}
 use Rattle.wt_code.specs.declared.refusals.Refusal.{Refusal}
 use Rattle.kv_model.specs.Calls.{rolled_back}
-use Rattle.kv_model.specs.Content.{Content, OpensAs, start}
+use Rattle.kv_model.specs.Content.{Content, OpensAs}
 use Rattle.kv_model.specs.Holds.{Member}
 use Rattle.kv_model.specs.Machine.{Machine, Completed}
 use Rattle.stored.specs.Stored.{Stored, Reads}
 use Rattle.device_leaf.specs.Closings.{content_was}
 use Rattle.engine_world.specs.Stands.{Stands}
-use Rattle.engine_world.specs.Systems.{checkpointed, first_world}
+use Rattle.engine_world.specs.Systems.{checkpointed}
 use Rattle.row_page.specs.Rows.{Row}
 use Rattle.engine_world.specs.Worlds.{World}
 use Rattle.evict_step.specs.Kept.{KeepsThese}
 use Rattle.ckpt_step.specs.Floors.{AreLivesOn, Follows}
 use Rattle.ckpt_step.specs.Grounds.{StandsOn}
-use Rattle.ckpt_step.specs.Plain.{IsPlain}
 use Rattle.engine_store.specs.declared.store.Store.{Store}
 use Rattle.engine_store.specs.Answers.{CheckpointTakes, CloseTakes, Installs, IsLeft, RefusesReopening, answer_of}
 use Rattle.engine_store.specs.Devices.{Installed, IsLater, device_of, may_open_to}
-use Rattle.engine_store.specs.Keeping.{with_kept}
+use Rattle.engine_store.specs.Keeping.{begun_with, with_kept}
 use Rattle.engine_store.specs.Images.{OpensToAny, OpensToLast, OpensToOne, Stays}
 
 -- the next checkpoint stands on the one that the device has, of which the leaves that are not loaded, and those that are clean, have the rows that they had; a leaf that was written since has those of its block; it opens as the machine's last one, and is one of those to which the device may open
@@ -40,6 +39,8 @@ module _ {D : Type 0} (g : Ghosts D) (start_disk : D) where
     pub stands : Stands s.engine w
     pub idle : w.machine.checkpoint ≡ None
     pub kept : KeepsThese w s.ground.kept
+    -- of a leaf that was never made no block has rows
+    pub bare : (id : ℕ) → s.engine.hub.dir.next ≤ id → w.shelf id ≡ []
     pub on : w.machine.fault ≡ None → IsGrounded (g.seen disk) (g.may_leave disk) s w (may_open_to (first ∷ []) made)
     pub images : Each (g.may_leave disk) (OpensToAny (may_open_to (first ∷ []) made))
     pub last : OpensToLast (g.may_leave disk) first w.machine.completed made
@@ -60,7 +61,6 @@ module _ {D : Type 0} (g : Ghosts D) (start_disk : D) where
       pub takes : CheckpointTakes s.ground.lives (device_of g before) (device_of g after) w.machine (answer_of result) next
       pub installs : Installs (answer_of result) (checkpointed w.machine).completed (device_of g after) next made now
       pub held : IsHeld s' after (record w { machine = next; shelf = shelf }) first now
-      pub plain : IsPlain next
       pub none : s.ground.lives ≡ [] → s'.ground.lives ≡ []
 
     -- leaves may have left their frames
@@ -75,7 +75,6 @@ module _ {D : Type 0} (g : Ghosts D) (start_disk : D) where
       pub takes : CloseTakes s.ground.lives (device_of g before) (device_of g after) w (answer_of result) next
       pub installs : Installs (answer_of result) (checkpointed (rolled_back w.machine)).completed (device_of g after) next made now
       pub held : IsHeld s' after (record w { machine = next }) first now
-      pub plain : IsPlain next
       pub none : s.ground.lives ≡ [] → s'.ground.lives ≡ []
 
     -- the device is opened anew: to one of the checkpoints that it may open to
@@ -87,8 +86,7 @@ module _ {D : Type 0} (g : Ghosts D) (start_disk : D) where
       pub seen : g.seen after ≡ g.seen before
       pub capacity : g.capacity after ≡ g.capacity before
       pub shelf : ℕ → List Row
-      pub held : IsHeld s' after (first_world content shelf s'.engine) first made
-      pub plain : IsPlain (start content)
+      pub held : IsHeld s' after (begun_with content shelf s') first made
       pub none : s'.ground.lives ≡ []
 
     -- it is not

@@ -3,6 +3,8 @@ use Rattle.std.specs.Prelude.{◌≡◌, ◌≢◌, ◌⊎◌, ℕ, true, List, 
 use Rattle.std.specs.List.{Contains}
 use Rattle.device_layout.specs.declared.link.Link.{Link}
 use Rattle.kv_model.specs.History.{Table}
+use Rattle.kv_model.specs.Holds.{Descends}
+use Rattle.kv_model.specs.Ordered.{Older}
 use Rattle.row_page.specs.Rows.{Row}
 use Rattle.leaf_rows.specs.Contents.{seen_rows}
 use Rattle.leaf_rows.specs.declared.marks.Marks.{Marks}
@@ -14,6 +16,8 @@ use Rattle.tree_dir.specs.Leaves.{Directory, leaf_named}
 use Rattle.call_steps.specs.declared.hub.Hub.{Hub}
 use Rattle.leaf_load.specs.Loads.{are_surely_seen}
 use Rattle.engine.specs.Waits.{in_none}
+use Rattle.evict_step.specs.Kept.{Lists, list_of, records_in}
+use Rattle.kept_open.specs.Opening.{opened_rows}
 use Rattle.ckpt_step.specs.Parts.{has_rows, own_part}
 use Rattle.ckpt_step.specs.Rooms.{Written}
 use Rattle.engine_store.specs.Loads.{low_behind}
@@ -57,8 +61,10 @@ HasAll ids some = (id : ℕ) → Contains some id → Contains ids id
 abbrev pub IsFramed : List Leaf → ℕ → Type 0
 IsFramed leaves id = (l : Leaf) → Contains leaves l → l.id ≡ id → l.frame ≢ None
 
--- the device has the leaf, and the shelf what an opening keeps of it
-pub record IsLeafKept (bytes : List ℕ) (dir : Directory) (marks : Marks) (ids : List ℕ) (shelf : ℕ → List Row) (l : Leaf) : Type 0 where
+-- The device has the leaf, and the shelf what an opening keeps of it, with the first version that is kept of each key of which it keeps no row.
+pub record IsLeafKept (bytes : List ℕ) (dir : Directory) (marks : Marks) (ids : List ℕ) (kept : Lists) (shelf : ℕ → List Row) (l : Leaf) : Type 0 where
   pub rows : List Row
   pub under : IsUnder bytes l.entry (low_behind l.id dir.leaves) rows
-  pub kept : shelf l.id ≡ seen_rows marks ids rows
+  pub opened : shelf l.id ≡ opened_rows (seen_rows marks ids rows) (list_of kept l.id)
+  -- what is kept of a key is newest first
+  pub falls : (key : List ℕ) → Descends Older (records_in kept l.id key)

@@ -4,18 +4,17 @@ use Rattle.limits.specs.declared.TheConstants.{TABLES_MAX}
 use Rattle.failure.specs.Counts.{Rose}
 use Rattle.disk_model.specs.declared.disk.Disk.{Ghosts}
 use Rattle.wt_code.specs.declared.refusals.Refusal.{Refusal}
-use Rattle.wt_code.specs.declared.refusals.Refusal.TheVariants.{Corrupt, Limit as Refusal_Limit}
-use Rattle.wt_code.specs.declared.refusals.Limit.TheVariants.{Tables}
+use Rattle.wt_code.specs.declared.refusals.Refusal.TheVariants.{Limit as Refusal_Limit}
+use Rattle.wt_code.specs.declared.refusals.Limit.TheVariants.{Checkpoints, Tables}
+use Rattle.kv_model.specs.Content.{Content}
 use Rattle.row_page.specs.Greatest.{no_name}
 use Rattle.engine_world.specs.Stands.{Stands}
-use Rattle.engine_world.specs.Systems.{first_world}
 use Rattle.row_page.specs.Rows.{Row}
 use Rattle.stored.specs.Records.{Record}
-use Rattle.stored.specs.Stored.{Stored, IsOn, IsBlank}
-use Rattle.recover_open.specs.declared.surveying.Above.{Above}
-use Rattle.recover_open.specs.Damage.{IsDamage}
-use Rattle.recover_open.specs.Recoveries.{RecoveryRefused}
-use Rattle.recover_open.specs.Surveys.{CanSurvey, Surveys}
+use Rattle.stored.specs.Stored.{Stored, IsOn, IsBlank, Reads}
+use Rattle.tree_open.specs.Damage.{Refused}
+use Rattle.recover_open.specs.declared.wholes.Whole.{Whole}
+use Rattle.recover_open.specs.Wholes.{CanSurveyWhole, IsWholeDamage, SurveysWhole}
 use Rattle.device_leaf.specs.declared.place.Place.{Place}
 use Rattle.device_leaf.specs.Openings.{last_number}
 use Rattle.device_leaf.specs.Closings.{content_was}
@@ -29,6 +28,7 @@ use Rattle.ckpt_step.specs.Rooms.{known_in}
 use Rattle.engine_store.specs.declared.store.Store.{Store}
 use Rattle.engine_store.specs.Loads.{LeafOfSpoils, LeafSpoils}
 use Rattle.engine_store.specs.GoneOut.{all_out}
+use Rattle.engine_store.specs.Keeping.{begun_with}
 use Rattle.engine_store.specs.Marked.{AreAway}
 
 -- whatever the disk: another checkpoint by the engine's run may follow, and each tree is that of a table, with as many levels as a record can tell
@@ -42,17 +42,17 @@ abbrev pub HasNumbers : Option Stored → Type 0
 HasNumbers None = Unit {0}
 HasNumbers (Some s) = (s.kept.run < last_number) × (s.kept.next_table + TABLES_MAX < 2 ^ 32 + length s.kept.tables)
 
--- the engine stands for the world with which what the device holds begins, without a session; the leaves that are not loaded are as the checkpoint has them, and none was written since; nothing is kept of any
+-- The engine stands for the world with which what the device holds begins, without a session, in which the history has what is kept. The leaves that are not loaded are as the checkpoint has them, and none was written since; of one that was never made no block has rows.
 pub record IsOpened (seen : List ℕ) (images : List ℕ → Type 0) (s : Store) : Type 0 where
   pub old : Option Stored
   pub numbers : HasNumbers old
   pub on : StandsOn seen images s.engine.hub s.ground old
   pub floor : s.ground.floor ≡ no_name
   pub none : s.ground.lives ≡ []
-  pub kept : s.ground.kept ≡ []
   pub shelf : ℕ → List Row
-  pub world : Stands s.engine (first_world (content_was old) shelf s.engine)
-  pub follows : Follows old s.engine.hub s.ground (first_world (content_was old) shelf s.engine)
+  pub world : Stands s.engine (begun_with (content_was old) shelf s)
+  pub bare : (id : ℕ) → s.engine.hub.dir.next ≤ id → shelf id ≡ []
+  pub follows : Follows old s.engine.hub s.ground (begun_with (content_was old) shelf s)
   pub away : AreAway s.engine.hub.dir.leaves (known_in s.ground.parts)
 
 -- whatever the disk, a hub from which calls go on
@@ -65,29 +65,29 @@ LacksNumbers r = 2 ^ 32 + length r.tables ≤ r.next_table + TABLES_MAX
 
 -- it has a checkpoint but for its leaves, or none was completed
 abbrev pub IsSurveyable : List ℕ → Type 0
-IsSurveyable bytes = IsBlank bytes ⊎ CanSurvey bytes
+IsSurveyable bytes = IsBlank bytes ⊎ CanSurveyWhole bytes
 
 -- a leaf to which the device's checkpoint leads is at fault
 pub record HasSpoiltLeaf (bytes : List ℕ) (at want found : ℕ) : Type 0 where
   pub place : Place
-  pub above : Above
-  pub surveyed : Surveys bytes place above
-  pub leaf : LeafOfSpoils bytes above.uppers.items at want found
+  pub whole : Whole
+  pub surveyed : SurveysWhole bytes place whole
+  pub leaf : LeafOfSpoils bytes whole.uppers.items at want found
 
 -- the device is damaged there, or a leaf to which its checkpoint leads is at fault
 abbrev pub IsAtFault : List ℕ → (at want found : ℕ) → Type 0
-IsAtFault bytes at want found = IsDamage bytes at want found ⊎ HasSpoiltLeaf bytes at want found
+IsAtFault bytes at want found = IsWholeDamage bytes at want found ⊎ HasSpoiltLeaf bytes at want found
 
 -- each leaf of the engine that is at fault is such a one
 abbrev pub SpoilsAreThere : List ℕ → Store → Type 0
 SpoilsAreThere bytes s = (id at want found : ℕ) → LeafSpoils bytes s.engine.hub.dir id at want found → HasSpoiltLeaf bytes at want found
 
--- Why an opening is refused: as a survey is, since no run may follow the record's, since its next number leaves none for as many tables as an engine may have, or since a leaf of which it may take something out is at fault.
+-- Why an opening is refused: a fault of the disk, want of memory, or damage, also of a leaf of which it may take something out; since no run may follow the record's, or since its next number leaves none for as many tables as an engine may have.
 abbrev pub OpenRefused : (fault known : Type 0) → List ℕ → Refusal → Type 0
 OpenRefused fault known bytes r =
-    RecoveryRefused fault known bytes r
-    ⊎ (((r ≡ Refusal_Limit Tables) × (known → (s : Stored) → IsOn bytes s → LacksNumbers s.kept) × (known → IsBlank bytes → ⊥))
-    ⊎ ((at : ℕ) × (want : ℕ) × (found : ℕ) × (r ≡ Corrupt at want found) × (known → HasSpoiltLeaf bytes at want found)))
+    Refused fault known (IsAtFault bytes) r
+    ⊎ (((r ≡ Refusal_Limit Checkpoints) × (known → (content : Content) → Reads bytes content → content.run ≡ last_number))
+    ⊎ ((r ≡ Refusal_Limit Tables) × (known → (s : Stored) → IsOn bytes s → LacksNumbers s.kept) × (known → IsBlank bytes → ⊥)))
 
 -- the same of a disk, before and after
 abbrev pub RefusesOpen : {D : Type 0} → Ghosts D → (known : Type 0) → D → D → Refusal → Type 0

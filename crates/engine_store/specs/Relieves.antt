@@ -1,5 +1,5 @@
 -- What leaves that have left their frames leave of a store.
-use Rattle.std.specs.Prelude.{◌≡◌, ◌||◌, ℕ, nat_le, nat_lt, Bool, List, [], length, None, Some, Option}
+use Rattle.std.specs.Prelude.{◌≡◌, ◌≤◌, ◌<◌, ◌||◌, ℕ, nat_le, nat_lt, Bool, List, [], length, None, Some, Option}
 use Rattle.disk_model.specs.declared.disk.Disk.{Ghosts}
 use Rattle.row_page.specs.Rows.{Row}
 use Rattle.stored.specs.Stored.{Stored}
@@ -25,18 +25,20 @@ pub record StaysAlike (s s' : Store) : Type 0 where
   pub number : s'.ground.number ≡ s.ground.number
   pub trees : s'.ground.trees ≡ s.ground.trees
 
--- The store stands for the world, whose shelf has what left the frames, on the checkpoint that the disk has, since which no leaf was written.
-pub record IsRelieved (seen : List ℕ) (images : List ℕ → Type 0) (old : Option Stored) (w : World) (s : Store) : Type 0 where
+-- The store stands for the world, whose shelf has what left the frames, on the checkpoint that the disk has, since which no leaf was written. Those that left have later ids; next: the one that came next before.
+pub record IsRelieved (seen : List ℕ) (images : List ℕ → Type 0) (old : Option Stored) (next : ℕ) (w : World) (s : Store) : Type 0 where
   pub shelf : ℕ → List Row
   pub stands : Stands s.engine (record w { shelf = shelf })
   pub on : StandsOn seen images s.engine.hub s.ground old
   pub follows : Follows old s.engine.hub s.ground (record w { shelf = shelf })
   pub none : s.ground.lives ≡ []
+  pub ids : next ≤ s.engine.hub.dir.next
+  pub same : (id : ℕ) → id < next → shelf id ≡ w.shelf id
 
 -- so it does where it stood for it, no leaf was written since the checkpoint, and that has the newest version of each key
 abbrev pub Relieves : List ℕ → (List ℕ → Type 0) → Store → Store → Type 0
 Relieves seen images s s' = (old : Option Stored) (w : World) → Stands s.engine w → w.machine.checkpoint ≡ None → StandsOn seen images s.engine.hub s.ground old → Follows old s.engine.hub s.ground w → s.ground.lives ≡ [] → HasNewest old w.machine
-    → IsRelieved seen images old w s'
+    → IsRelieved seen images old s.engine.hub.dir.next w s'
 
 -- whatever the disk
 pub record LetsGo {D : Type 0} (g : Ghosts D) (s s' : Store) : Type 0 where

@@ -10,7 +10,6 @@ use Rattle.kv_model.specs.Machine.{Completed, GoDown, Machine, after as after_ev
 use Rattle.row_page.specs.Rows.{Row}
 use Rattle.engine_world.specs.Worlds.{World}
 use Rattle.engine.specs.Checkpoints.{MayStart}
-use Rattle.ckpt_step.specs.Plain.{IsPlain}
 use Rattle.engine_store.specs.declared.store.Store.{Store}
 use Rattle.engine_store.specs.Devices.{Installed, IsLater, IsNumberOf, KeepsCheckpoint, device_of}
 use Rattle.engine_store.specs.Held.{IsHeld}
@@ -28,7 +27,6 @@ module _ {D : Type 0} (g : Ghosts D) (start_disk : D) (w : World) (first : Compl
     pub later : IsLater (device_of g before) (device_of g after)
     pub capacity : g.capacity after ≡ g.capacity before
     pub held : IsHeld g start_disk s' after (record w { machine = next; shelf = shelf }) first made
-    pub plain : IsPlain next
 
   -- the machine is the same, and the device has the checkpoint that it had
   pub record WroteUp : Type 0 where
@@ -58,7 +56,7 @@ module _ {D : Type 0} (g : Ghosts D) (start_disk : D) (w : World) (first : Compl
 -- on an honest disk, of each world
 abbrev pub WritesFrom : {D : Type 0} → Ghosts D → (s s' : Store) → (before after : D) → Result (Unit {0}) Refusal → Type 0
 WritesFrom {D} g s s' before after result =
-    IsTrue (g.honest before) → (start : D) (w : World) (first : Completed) (made : List Installed) → IsHeld g start s before w first made → IsPlain w.machine → WritesOut g start w first made s s' before after result
+    IsTrue (g.honest before) → (start : D) (w : World) (first : Completed) (made : List Installed) → IsHeld g start s before w first made → WritesOut g start w first made s s' before after result
 
 -- whatever the disk
 pub record WritesAlike {D : Type 0} (g : Ghosts D) (s s' : Store) (before after : D) (result : Result (Unit {0}) Refusal) : Type 0 where

@@ -3,11 +3,11 @@
 ghost use Rattle.std.specs.Prelude.{◌≡◌, ℕ, ◌+◌, ◌^◌, ◌<◌, List, length, false, IfErr, IfOk, IsTrue};
 ghost use Rattle.limits.specs.declared.TheConstants.{TABLES_MAX};
 ghost use Rattle.disk_model.specs.Crash.{Looked};
-ghost use Rattle.kv_model.specs.Content.{Content};
+ghost use Rattle.kv_model.specs.Content.{Content, IsLayered};
 ghost use Rattle.stored.specs.Stored.{Reads};
 ghost use Rattle.device_leaf.specs.Openings.{last_number};
 ghost use Rattle.recover_open.specs.Bare.{marks_of};
-ghost use Rattle.recover_open.specs.Surveys.{AboveInForm, Surveys};
+ghost use Rattle.recover_open.specs.Wholes.{SurveysWhole, WholeInForm};
 ghost use Rattle.engine_store.specs.Found.{IsFound, RefusesBegin};
 ghost use Rattle.engine_store.specs.Opened.{IsOutset, IsReady, LacksNumbers, SpoilsAreThere};
 
@@ -19,15 +19,18 @@ use crate::places::trees_over;
 use crate::store::Store;
 use crate::tables::with_entries;
 use checkpoint_record::{Record, TableRoot, records_are_recorded};
-use ckpt_step::{Ground, Kept, Lives};
+use ckpt_step::{Ground, Lives};
 use device_leaf::Place;
 use disk_model::Disk;
-use engine_start::start;
+use engine_start::{bare_leaves_start, leaves_have_cells, start};
+use hist_open::History;
+use kept_open::{keep_history, read_histories_fit, rows_open};
 use leaf_rows::Marks;
 use limits::{NUMBER_MAX, TABLES_MAX};
-use recover_open::Above;
+use recover_open::Whole;
 use stamp::Name;
 use std::alloc::Global;
+use stored::what_is_read_is_regular;
 use wt_code::{Limit, Refusal};
 
 /// An engine on what was surveyed, and what the next checkpoint stands on. Its leaves are in no frame,
@@ -38,28 +41,37 @@ pub(crate) fn store_above<D: Disk>(
     alloc: Global,
     disk: &mut D,
     place: Place,
-    above: Above,
+    whole: Whole,
     frames: Frames,
 ) -> Result<Store, Refusal>
-    requires { AboveInForm above }
-    ensures found { IsTrue (D.honest disk.old) → Surveys (D.seen disk.old) place above → (content : Content) → Reads (D.seen disk.old) content → IfOk result (IsFound (D.seen disk.old)) }
-    ensures spoils { IsTrue (D.honest disk.old) → Surveys (D.seen disk.old) place above → IfOk result (SpoilsAreThere (D.seen disk.old)) }
+    requires { WholeInForm whole }
+    ensures found { IsTrue (D.honest disk.old) → SurveysWhole (D.seen disk.old) place whole → (content : Content) → Reads (D.seen disk.old) content → IsLayered content → IfOk result (IsFound (D.seen disk.old)) }
+    ensures spoils { IsTrue (D.honest disk.old) → SurveysWhole (D.seen disk.old) place whole → IfOk result (SpoilsAreThere (D.seen disk.old)) }
     ensures outset { IfOk result (λ s. IsOutset s.engine.hub) }
     ensures ready { IfOk result IsReady }
     ensures frames { IfOk result (λ s. s.frames ≡ frames) }
     ensures sessions { IfOk result (λ s. length s.engine.sessions ≡ 0) }
-    ensures err { IfErr result (RefusesBegin D.Disk above disk.old disk.new) }
+    ensures err { IfErr result (RefusesBegin D.Disk whole disk.old disk.new) }
     ensures looked { Looked D.Disk disk.old disk.new }
     ensures home { D.home disk.new ≡ D.home disk.old }
 {
-    if run_of(&above.record) >= NUMBER_MAX {
+    if run_of(&whole.record) >= NUMBER_MAX {
         return Err(Refusal::Limit(Limit::Checkpoints));
     }
-    if !has_numbers(&above.record) {
+    if !has_numbers(&whole.record) {
         return Err(Refusal::Limit(Limit::Tables));
     }
     records_are_recorded();
-    let Above { record, uppers } = above;
+    what_is_read_is_regular();
+    read_histories_fit();
+    leaves_have_cells();
+    bare_leaves_start();
+    rows_open();
+    let Whole {
+        record,
+        uppers,
+        history,
+    } = whole;
     let marks = marks_of(&record);
     let number = number_of(&record);
     let next_table = next_table_of(&record);
@@ -68,7 +80,9 @@ pub(crate) fn store_above<D: Disk>(
     let (tables, ids) = into_parts(record);
     let tables = with_entries(alloc, tables, uppers)?;
     let mut engine = start(alloc, marks, next_table, tables)?;
-    match bring_marked(alloc, disk, &mut engine, marks, &ids) {
+    let History { records, addrs } = history;
+    let mut kept = keep_history(alloc, records, &marks, &ids, engine.leaves())?;
+    match bring_marked(alloc, disk, &mut kept, &mut engine, marks, &ids) {
         Ok(()) => {
             // What holds of the leaves of every engine holds of these.
             engine.leaves();
@@ -81,7 +95,8 @@ pub(crate) fn store_above<D: Disk>(
                     trees,
                     parts,
                     lives: Lives::new(alloc),
-                    kept: Kept::new(alloc),
+                    history: addrs,
+                    kept,
                     floor: Name { run: 0, id: 0 },
                 },
                 frames,

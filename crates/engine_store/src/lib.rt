@@ -2,10 +2,10 @@
 //!
 //! Stands for an engine, and for the last completed checkpoint of its device. Promises that an
 //! opening of a device that reads makes an engine that stands for the machine which what the device
-//! holds begins with, and that a close rolls back each transaction and takes a checkpoint
-//! (`ckpt_step`). Where no commit had a stamp, a checkpoint, a close and an opening anew keep what
-//! holds between two calls (`IsHeld`): at each moment a crash leaves what opens to a checkpoint
-//! that was done, or was being installed since. So do the calls of actors, whose leaves are read
+//! holds begins with, its history too, and that a close rolls back each transaction and takes a
+//! checkpoint (`ckpt_step`). A checkpoint, a close and an opening anew keep what holds between two
+//! calls (`IsHeld`): at each moment a crash leaves what opens to a checkpoint that was done, or was
+//! being installed since. So do the calls of actors, whose leaves are read
 //! from the device when they need them, and leave memory behind a call that read others, or behind
 //! a checkpoint; those that calls changed go out of it where the caller asks for it, while nobody
 //! is at work (`Store::write_out`) or whoever is (`Store::make_room`, and of one key

@@ -1,15 +1,16 @@
 //! Leaves that come into memory from a device.
 
-ghost use Rattle.std.specs.Prelude.{◌≡◌, ◌⊎◌, ℕ, List, [], None, Some, length, IfErr, IfOk, OnErr, OnOk, IsTrue};
+ghost use Rattle.std.specs.Prelude.{◌≡◌, ◌⊎◌, ◌≤◌, ℕ, List, [], None, Some, length, IfErr, IfOk, OnErr, OnOk, IsTrue};
 ghost use Rattle.disk_model.specs.Crash.{Looked};
 ghost use Rattle.engine_world.specs.Stands.{Stands};
 ghost use Rattle.engine_world.specs.Worlds.{World};
 ghost use Rattle.engine.specs.Directories.{HubGoesOn};
 ghost use Rattle.engine.specs.Waits.{IsAway, turns_in, waits_in};
-ghost use Rattle.leaf_capture.specs.Capture.{ChainsFit};
+ghost use Rattle.reconcile.specs.Capture.{ChainsFit};
 ghost use Rattle.engine_world.specs.Coming.{ComesFrom};
-ghost use Rattle.evict_step.specs.Backs.{AreNewestFirst};
-ghost use Rattle.evict_step.specs.Kept.{list_of, records_in};
+ghost use Rattle.reconcile.specs.Moving.{versions_in};
+ghost use Rattle.evict_step.specs.Backs.{AreNewestFirst, unlike};
+ghost use Rattle.evict_step.specs.Kept.{list_of};
 ghost use Rattle.engine_store.specs.Keeping.{with_kept};
 ghost use Rattle.engine_store.specs.Loads.{IsReadAs, LacksLeaf, RefusesLeaf, ShelfIsOn};
 ghost use Rattle.failure.specs.Counts.{Rose};
@@ -80,10 +81,17 @@ pub(crate) fn bring<D: Disk>(
     }
 }
 
-// A leaf as it was read, with what is kept of it below its rows. The error is want of memory.
-fn with_moved(alloc: Global, kept: &Kept, leaf: u64, read: LeafFrame) -> Result<LeafFrame, NoMemory>
+// A leaf as it was read, with what is kept of it below its rows, but what is a row. The error is want of
+// memory.
+pub(crate) fn with_moved(
+    alloc: Global,
+    kept: &Kept,
+    leaf: u64,
+    read: LeafFrame,
+) -> Result<LeafFrame, NoMemory>
     requires { read.chains ≡ [] }
-    ensures comes { IfOk result (λ held. AreNewestFirst read.page (list_of kept.now leaf) → ComesFrom held read.page (records_in kept.now leaf)) }
+    ensures comes { IfOk result (λ held. AreNewestFirst read.page (unlike read.page (list_of kept.now leaf)) → ComesFrom held read.page (λ key. versions_in key (unlike read.page (list_of kept.now leaf)))) }
+    ensures alone { IfOk result (λ held. AreNewestFirst read.page (unlike read.page (list_of kept.now leaf)) → 1 ≤ length held.page → unlike read.page (list_of kept.now leaf) ≡ []) }
     ensures fit { IfOk result (λ held. ChainsFit held.chains) }
 {
     let moved = kept.copy_of(alloc, leaf)?;

@@ -1,6 +1,6 @@
 //! Leaves of which an opening may take something out, or whose blocks no checkpoint keeps.
 
-ghost use Rattle.std.specs.Prelude.{◌≡◌, ◌⊎◌, ◌==◌, ◌<◌, ◌++◌, ◌∷◌, [], ℕ, List, None, false, length, get_or, if◌then◌else◌, option_map, IfErr, IfOk, OnOk, IsTrue};
+ghost use Rattle.std.specs.Prelude.{◌≡◌, ◌≢◌, ◌⊎◌, ◌==◌, ◌<◌, ◌++◌, ◌∷◌, [], ℕ, List, None, false, length, get_or, if◌then◌else◌, option_map, IfErr, IfOk, OnOk, IsTrue};
 ghost use Rattle.std.specs.Option.{option_or};
 ghost use Rattle.std.specs.List.{Contains};
 ghost use Rattle.disk_model.specs.Crash.{Looked};
@@ -11,20 +11,22 @@ ghost use Rattle.engine.specs.Directories.{HubGoesOn, LeavesGoOn};
 ghost use Rattle.engine.specs.Waits.{IsAway, in_none};
 ghost use Rattle.tree_dir.specs.declared.leaf.Leaf.{Leaf as ALeaf};
 ghost use Rattle.tree_dir.specs.Leaves.{leaf_named};
+ghost use Rattle.evict_step.specs.Kept.{list_of};
 ghost use Rattle.ckpt_step.specs.Rooms.{known_in};
 ghost use Rattle.engine_store.specs.Keeping.{with_kept};
 ghost use Rattle.engine_store.specs.Marked.{AreMarked, AreMarkedOf, HasAll, IsFramed, IsLeafKept, IsUnmarked, KeepMarked, LeadsOn, framed_part};
 ghost use Rattle.engine_store.specs.Loads.{RefusesLeaf, RefusesSome};
 
-use crate::loading::{link_of, read_leaf};
+use crate::loading::{link_of, read_leaf, with_moved};
 use catalog::Table;
-use ckpt_step::Parts;
+use ckpt_step::{Kept, Parts};
 use device_layout::Link;
 use device_leaf::is_nowhere;
 use disk_model::Disk;
 use engine::Local;
 use failure::NoMemory;
 use inner_page::Entry;
+use kept_open::rows_open;
 use leaf_load::{is_surely_seen, one_is_loaded};
 use leaf_rows::Marks;
 use std::alloc::Global;
@@ -32,18 +34,20 @@ use tree_dir::{Dir, Leaf};
 use wt_code::Refusal;
 
 /// Brings each leaf into a frame of which an opening with these marks may take something out, as the
-/// opening keeps it: its link says a name or a stamp that the checkpoint may not have seen. The next
+/// opening keeps it: its link says a name or a stamp that the checkpoint may not have seen. What is kept of
+/// it comes with it, so that a key whose row goes shows the newest of these versions. The next
 /// checkpoint writes it anew. So with a leaf that has a block but no rows, which the next checkpoint
 /// lets go. `O(n)` in the leaves, and `O(bytes)` of those, each read once.
 pub(crate) fn bring_marked<D: Disk>(
     alloc: Global,
     disk: &mut D,
+    kept: &mut Kept,
     engine: &mut Local,
     marks: Marks,
     ids: &[u64],
 ) -> Result<(), Refusal>
     requires owned { LeavesOwned engine.old.hub.tables.tables engine.old.hub.dir.leaves }
-    ensures stands { IsTrue (D.honest disk.old) → (w : World) → Stands engine.old (with_kept [] w) → ((l : ALeaf) → Contains engine.old.hub.dir.leaves l → IsLeafKept (D.seen disk.old) engine.old.hub.dir marks ids.now w.shelf l) → OnOk result (Stands engine.new (with_kept [] w)) }
+    ensures stands { IsTrue (D.honest disk.old) → (w : World) → Stands engine.old (with_kept kept.old w) → ((l : ALeaf) → Contains engine.old.hub.dir.leaves l → IsLeafKept (D.seen disk.old) engine.old.hub.dir marks ids.now kept.old w.shelf l) → OnOk result (Stands engine.new (with_kept kept.new w)) }
     ensures unmarked { OnOk result ((l : ALeaf) → Contains engine.new.hub.dir.leaves l → l.frame ≡ None → IsUnmarked marks l) }
     ensures leaves { OnOk result (LeavesGoOn engine.old.hub.dir.leaves engine.new.hub.dir.leaves) }
     ensures goes { HubGoesOn engine.old.hub engine.new.hub }
@@ -54,7 +58,7 @@ pub(crate) fn bring_marked<D: Disk>(
 {
     let marked = marked_of(alloc, engine, &marks)?;
     for leaf in &marked {
-        match bring_as(alloc, disk, engine, *leaf, marks, ids) {
+        match bring_as(alloc, disk, kept, engine, *leaf, marks, ids) {
             Ok(()) => {}
             Err(refusal) => return Err(refusal),
         }
@@ -185,17 +189,19 @@ fn leads(link: Link) -> bool
     link.greatest.id != 0 || is_nowhere(link)
 }
 
-// Brings a leaf into a frame as an opening keeps it, if it is in none.
+// Brings a leaf into a frame as an opening keeps it, with what is kept of it, if it is in none.
 fn bring_as<D: Disk>(
     alloc: Global,
     disk: &mut D,
+    kept: &mut Kept,
     engine: &mut Local,
     leaf: u64,
     marks: Marks,
     ids: &[u64],
 ) -> Result<(), Refusal>
     requires owned { LeavesOwned engine.old.hub.tables.tables engine.old.hub.dir.leaves }
-    ensures stands { IsTrue (D.honest disk.old) → (w : World) → Stands engine.old (with_kept [] w) → ((l : ALeaf) → Contains engine.old.hub.dir.leaves l → IsLeafKept (D.seen disk.old) engine.old.hub.dir marks ids.now w.shelf l) → OnOk result (Stands engine.new (with_kept [] w)) }
+    ensures stands { IsTrue (D.honest disk.old) → (w : World) → Stands engine.old (with_kept kept.old w) → ((l : ALeaf) → Contains engine.old.hub.dir.leaves l → l.frame ≡ None → IsLeafKept (D.seen disk.old) engine.old.hub.dir marks ids.now kept.old w.shelf l) → OnOk result (Stands engine.new (with_kept kept.new w)) }
+    ensures others { OnOk result ((id : ℕ) → id ≢ leaf → list_of kept.new id ≡ list_of kept.old id) }
     ensures framed { OnOk result (IsFramed engine.new.hub.dir.leaves leaf) }
     ensures leaves { LeavesGoOn engine.old.hub.dir.leaves engine.new.hub.dir.leaves }
     ensures goes { HubGoesOn engine.old.hub engine.new.hub }
@@ -208,12 +214,19 @@ fn bring_as<D: Disk>(
         return Ok(());
     }
     one_is_loaded();
-    let page = match read_leaf(alloc, disk, engine.leaves(), leaf, marks, ids) {
-        Ok(page) => page,
+    rows_open();
+    let read = match read_leaf(alloc, disk, engine.leaves(), leaf, marks, ids) {
+        Ok(read) => read,
         Err(refusal) => return Err(refusal),
     };
+    let Ok(page) = with_moved(alloc, kept, leaf, read) else {
+        return Err(Refusal::NoMemory);
+    };
     match engine.fill(leaf, page) {
-        Ok(()) => Ok(()),
+        Ok(()) => {
+            kept.forget(leaf);
+            Ok(())
+        }
         Err(NoMemory) => Err(Refusal::NoMemory),
     }
 }

@@ -1,7 +1,7 @@
 // How a device is opened.
 ghost use Rattle.std.specs.Prelude.{◌≡◌, ℕ, List, [], Some, length, IfErr, IfOk, OnOk, IsTrue};
 ghost use Rattle.disk_model.specs.Crash.{Looked};
-ghost use Rattle.kv_model.specs.Content.{Content};
+ghost use Rattle.kv_model.specs.Content.{Content, IsLayered};
 ghost use Rattle.stored.specs.Stored.{Reads};
 ghost use Rattle.recover_open.specs.Recoveries.{KeepsNone};
 ghost use Rattle.engine_store.specs.Calls.{IsBasis, basis_of};
@@ -18,22 +18,23 @@ use device_leaf::Place;
 use disk_model::Disk;
 use engine::Local;
 use failure::NoMemory;
-use recover_open::{Surveyed, survey};
+use recover_open::{SurveyedWhole, survey_whole};
 use stamp::Name;
 use std::alloc::Global;
 use tree_dir::Dir;
 use wt_code::Refusal;
 
-/// An engine with so many frames on what a device holds, without a session. The record and the inner
-/// pages are read, and of the leaves those alone of which an opening may take something out: any other is
-/// read when a call needs it, and damage of it told then. Nothing is written.
+/// An engine with so many frames on what a device holds, without a session. The record, the inner pages
+/// and the history are read, and of the leaves those alone of which an opening may take something out:
+/// any other is read when a call needs it, and damage of it told then. What the opening keeps of the
+/// history is in memory, and comes to its leaf with that. Nothing is written.
 ///
-/// Refused as `recover_open::survey` says, since such a leaf is at fault, as `75 limit checkpoints`
+/// Refused as `recover_open::survey_whole` says, since such a leaf is at fault, as `75 limit checkpoints`
 /// where no run may follow that of the record, and as `75 limit tables` where its next number leaves
 /// none for as many tables as an engine may have. `O(bytes)` of what is read, `O(n)` in the leaves and
-/// blocks, and `O(n^2)` in the tables at most.
+/// blocks, `O(n log n)` in the records of the history, and `O(n^2)` in the tables at most.
 pub fn open_on<D: Disk>(alloc: Global, disk: &mut D, frames: Frames) -> Result<Store, Refusal>
-    ensures ok { IsTrue (D.honest disk.old) → (content : Content) → Reads (D.seen disk.old) content → IfOk result (IsOpened (D.seen disk.new) (D.may_leave disk.new)) }
+    ensures ok { IsTrue (D.honest disk.old) → (content : Content) → Reads (D.seen disk.old) content → IsLayered content → IfOk result (IsOpened (D.seen disk.new) (D.may_leave disk.new)) }
     ensures surveyed { IsTrue (D.honest disk.old) → OnOk result (IsSurveyable (D.seen disk.old)) }
     ensures spoils { IsTrue (D.honest disk.old) → IfOk result (SpoilsAreThere (D.seen disk.old)) }
     ensures basis { IfOk result (λ s. IsBasis D.Disk (Some (basis_of D.Disk s disk.new)) s.engine disk.new) }
@@ -44,12 +45,12 @@ pub fn open_on<D: Disk>(alloc: Global, disk: &mut D, frames: Frames) -> Result<S
     ensures looked { Looked D.Disk disk.old disk.new }
     ensures home { D.home disk.new ≡ D.home disk.old }
 {
-    let Surveyed { place, above } = match survey(alloc, disk) {
+    let SurveyedWhole { place, whole } = match survey_whole(alloc, disk) {
         Ok(found) => found,
         Err(refusal) => return Err(refusal),
     };
-    match above {
-        Some(above) => store_above(alloc, disk, place, above, frames),
+    match whole {
+        Some(whole) => store_above(alloc, disk, place, whole, frames),
         None => match store_on_nothing(alloc, place, frames) {
             Ok(store) => Ok(store),
             Err(NoMemory) => Err(Refusal::NoMemory),
@@ -77,6 +78,7 @@ fn store_on_nothing(alloc: Global, place: Place, frames: Frames) -> Result<Store
             trees: Vec::new(alloc),
             parts: Parts::new(alloc),
             lives: Lives::new(alloc),
+            history: Vec::new(alloc),
             kept: Kept::new(alloc),
             floor: Name { run: 0, id: 0 },
         },

@@ -7,9 +7,9 @@ ghost use Rattle.kv_model.specs.Machine.{Completed};
 ghost use Rattle.stored.specs.Stored.{Stored};
 ghost use Rattle.engine_world.specs.Stands.{Stands};
 ghost use Rattle.engine_world.specs.Worlds.{World};
+ghost use Rattle.evict_step.specs.Kept.{KeepsThese};
 ghost use Rattle.ckpt_step.specs.Floors.{AreLivesOn, Follows};
 ghost use Rattle.ckpt_step.specs.Grounds.{StandsOn};
-ghost use Rattle.ckpt_step.specs.Plain.{IsPlain};
 ghost use Rattle.ckpt_step.specs.Takes.{IsOfCheckpoint};
 ghost use Rattle.engine_store.specs.Calls.{StaysTold};
 ghost use Rattle.engine_store.specs.Closes.{Closes};
@@ -20,7 +20,8 @@ ghost use Rattle.engine_store.specs.Opened.{IsAtFault, IsReady};
 use crate::eviction::Clock;
 use crate::frames::Frames;
 use crate::opening::open_on;
-use ckpt_step::{Ground, checkpoint, checkpoints_have_newest, checkpoints_open, plain_stays};
+use ckpt_content::checkpoints_open;
+use ckpt_step::{Ground, checkpoint, checkpoints_have_newest};
 use disk_model::Disk;
 use engine::Local;
 use engine_world::downs_go;
@@ -44,13 +45,13 @@ pub struct Store {
 }
 
 impl Store {
-    /// Takes a checkpoint in one event (`ckpt_step::checkpoint`). Where no commit had a stamp, the
-    /// device opens as the checkpoint that the machine takes. Once it is taken, and while no session
+    /// Takes a checkpoint in one event (`ckpt_step::checkpoint`): the device opens as the checkpoint that
+    /// the machine takes. Once it is taken, and while no session
     /// has a call, a transaction or a cursor on a leaf, leaves leave their frames: those behind the
     /// first ones, as many as there are frames, and those of which it has several images.
     pub fn checkpoint<D: Disk>(&mut self, alloc: Global, disk: &mut D) -> Result<(), Refusal>
         requires ready { IsReady self.old }
-        ensures takes { IsTrue (D.honest disk.old) → (first_disk : D) → (w : World) → (first : Completed) → (made : List Installed) → IsHeld D.Disk first_disk self.old disk.old w first made → IsPlain w.machine
+        ensures takes { IsTrue (D.honest disk.old) → (first_disk : D) → (w : World) → (first : Completed) → (made : List Installed) → IsHeld D.Disk first_disk self.old disk.old w first made
             → Checkpoints D.Disk first_disk w first made self.old self.new disk.old disk.new result }
         ensures refusals { IfErr result IsOfCheckpoint }
         ensures fault { IfErr result (λ r. r ≡ Refusal.DiskFault → Rose (D.faults disk.old) (D.faults disk.new)) }
@@ -77,9 +78,9 @@ impl Store {
     /// is not finished; any other refusal comes after the transactions were rolled back.
     pub fn close<D: Disk>(&mut self, alloc: Global, disk: &mut D) -> Result<(), Refusal>
         requires ready { IsReady self.old }
-        ensures closes { IsTrue (D.honest disk.old) → (w : World) → Stands self.old.engine w → w.machine.checkpoint ≡ None → (old : Option Stored) → StandsOn (D.seen disk.old) (D.may_leave disk.old) self.old.engine.hub self.old.ground old
+        ensures closes { IsTrue (D.honest disk.old) → (w : World) → Stands self.old.engine w → w.machine.checkpoint ≡ None → KeepsThese w self.old.ground.kept → (old : Option Stored) → StandsOn (D.seen disk.old) (D.may_leave disk.old) self.old.engine.hub self.old.ground old
             → Follows old self.old.engine.hub self.old.ground w → AreLivesOn (D.seen disk.old) self.old.engine.hub self.old.ground w → Closes D.Disk old w self.old self.new disk.old disk.new result }
-        ensures shuts { IsTrue (D.honest disk.old) → (first_disk : D) → (w : World) → (first : Completed) → (made : List Installed) → IsHeld D.Disk first_disk self.old disk.old w first made → IsPlain w.machine
+        ensures shuts { IsTrue (D.honest disk.old) → (first_disk : D) → (w : World) → (first : Completed) → (made : List Installed) → IsHeld D.Disk first_disk self.old disk.old w first made
             → Shuts D.Disk first_disk w first made self.old self.new disk.old disk.new result }
         ensures refusals { IfErr result IsOfCheckpoint }
         ensures fault { IfErr result (λ r. r ≡ Refusal.DiskFault → Rose (D.faults disk.old) (D.faults disk.new)) }
@@ -90,7 +91,6 @@ impl Store {
         ensures disk { SameDisk D.Disk disk.old disk.new }
     {
         checkpoints_open();
-        plain_stays();
         downs_go();
         match self.engine.may_close() {
             Ok(()) => {}
@@ -120,7 +120,6 @@ impl Store {
         ensures told { StaysTold D.Disk self.old self.new disk.old disk.new }
         ensures disk { SameDisk D.Disk disk.old disk.new }
     {
-        plain_stays();
         match open_on(alloc, disk, frames) {
             Ok(opened) => {
                 *self = opened;

@@ -6,6 +6,7 @@ mod bench;
 mod checkpoints;
 mod closings;
 mod leaves;
+mod older;
 mod room;
 mod spoilt;
 mod written_out;

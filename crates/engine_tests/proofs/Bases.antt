@@ -9,7 +9,7 @@ use Rattle.stored.specs.TableTree.{Entry}
 use Rattle.tree_dir.specs.declared.leaf.Leaf.{Leaf}
 use Rattle.tree_dir.specs.Leaves.{Directory, HasTable, leaves_with, no_leaves}
 use Rattle.tree_dir.proofs.Members.{split}
-use Rattle.leaf_capture.specs.Capture.{ChainsFit}
+use Rattle.reconcile.specs.Capture.{ChainsFit}
 use Rattle.leaf_frame.specs.Leaf.{HeldLeaf}
 use Rattle.engine_world.specs.Leaves.{LeavesOwned}
 

@@ -6,7 +6,7 @@ use Rattle.std.specs.Option.{option_to_list}
 use Rattle.std.proofs.lemmas.Bool.{cases_eq}
 use Rattle.std.proofs.lemmas.List.{get_or-set_same}
 use Rattle.kv_model.specs.Machine.{of_some}
-use Rattle.rows_shown.specs.Shows.{shown_at}
+use Rattle.reconcile.specs.Shows.{shown_at}
 use Rattle.leaf_chains.specs.Slots.{chain_at}
 use Rattle.leaf_frame.specs.Leaf.{HeldLeaf}
 use Rattle.tree_dir.specs.declared.leaf.Framed.{Framed}

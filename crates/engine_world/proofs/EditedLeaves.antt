@@ -9,7 +9,7 @@ use Rattle.kv_model.specs.Holds.{Member}
 use Rattle.kv_model.specs.History.{Write}
 use Rattle.kv_model.specs.Machine.{Machine, Transaction, name_of, of_some}
 use Rattle.row_page.specs.Rows.{Row}
-use Rattle.rows_shown.specs.Shows.{shown_at}
+use Rattle.reconcile.specs.Shows.{shown_at}
 use Rattle.tree_dir.specs.declared.leaf.Leaf.{Leaf}
 use Rattle.tree_dir.specs.Leaves.{Directory, IsDirectory, leaf_under}
 use Rattle.update_chain.specs.declared.update.Update.{Update}

@@ -10,7 +10,7 @@ use Rattle.kv_model.specs.Machine.{of_some}
 use Rattle.kv_model.specs.Ordered.{Older}
 use Rattle.row_page.specs.Rows.{Row}
 use Rattle.leaf_chains.specs.Slots.{chain_at}
-use Rattle.rows_shown.specs.Shows.{shown_at}
+use Rattle.reconcile.specs.Shows.{shown_at}
 use Rattle.tree_dir.specs.declared.leaf.Framed.{Framed}
 use Rattle.tree_dir.specs.declared.leaf.Leaf.{Leaf}
 use Rattle.tree_dir.specs.Leaves.{IsDirectory, changed, leaf_under}

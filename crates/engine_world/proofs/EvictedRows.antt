@@ -12,7 +12,7 @@ use Rattle.kv_model.specs.Ordered.{Older}
 use Rattle.kv_model.specs.Reconciling.{each_one}
 use Rattle.kv_model.proofs.Pins.{covers-parts}
 use Rattle.row_page.specs.Rows.{Row}
-use Rattle.rows_shown.specs.Shows.{shown_at}
+use Rattle.reconcile.specs.Shows.{shown_at}
 use Rattle.update_chain.specs.declared.update.Update.{Update}
 use Rattle.leaf_chains.specs.Slots.{chain_at}
 use Rattle.tree_dir.specs.declared.leaf.Leaf.{Leaf}

@@ -16,7 +16,7 @@ use Rattle.kv_model.specs.Pending.{Update as ModelUpdate}
 use Rattle.kv_model.specs.ReconcileLaws.{EvictionStands}
 use Rattle.kv_model.specs.Reconciling.{EndedWhere, PastCovers, each_one, held_in}
 use Rattle.row_page.specs.Rows.{Row}
-use Rattle.rows_shown.specs.Shows.{shown_at}
+use Rattle.reconcile.specs.Shows.{shown_at}
 use Rattle.update_chain.specs.EventLaws.{StandsFor}
 use Rattle.update_chain.specs.declared.update.Update.{Update}
 use Rattle.update_chain.specs.Updates.{update_in}

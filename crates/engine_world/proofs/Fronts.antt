@@ -14,7 +14,7 @@ use Rattle.kv_model.specs.Pending.{Update as ModelUpdate, TopStands, settled}
 use Rattle.kv_model.specs.Reads.{own_write, is_own, IsEnding}
 use Rattle.kv_model.proofs.Newest.{find-member}
 use Rattle.kv_model.proofs.OwnWrites.{at-parts}
-use Rattle.rows_shown.specs.Shows.{shown_at}
+use Rattle.reconcile.specs.Shows.{shown_at}
 use Rattle.row_page.specs.Rows.{Row}
 use Rattle.tree_dir.specs.declared.leaf.Framed.{Framed}
 use Rattle.tree_dir.specs.declared.leaf.Leaf.{Leaf}

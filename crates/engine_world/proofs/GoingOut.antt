@@ -7,7 +7,7 @@ use Rattle.kv_model.specs.Machine.{of_some}
 use Rattle.row_page.specs.Rows.{Row}
 use Rattle.leaf_chains.specs.declared.slot.KeyChain.{KeyChain}
 use Rattle.leaf_chains.specs.Slots.{chain_at, slot_of}
-use Rattle.rows_shown.specs.Shows.{shown_at}
+use Rattle.reconcile.specs.Shows.{shown_at}
 use Rattle.tree_dir.specs.Leaves.{in_frame}
 use Rattle.call_steps.specs.declared.frame.Frame.{Frame}
 use Rattle.call_steps.specs.State.{State}

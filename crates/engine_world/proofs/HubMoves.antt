@@ -15,7 +15,7 @@ use Rattle.kv_model.specs.Reads.{IsEnding}
 use Rattle.kv_model.specs.Valid.{Valid}
 use Rattle.kv_model.specs.Decisions.{Outcome, Request, refused, invalid, with_session as with_transaction_of, in_state, running_session, judged, decision, is_on_page}
 use Rattle.kv_model.proofs.EveryEvent.{valid-after}
-use Rattle.rows_shown.specs.Shows.{shown_at}
+use Rattle.reconcile.specs.Shows.{shown_at}
 use Rattle.tree_dir.specs.declared.leaf.Leaf.{Leaf}
 use Rattle.txn_table.specs.declared.phase.Phase.{Phase}
 use Rattle.txn_table.specs.declared.phase.Phase.TheVariants as phase

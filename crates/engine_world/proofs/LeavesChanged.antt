@@ -14,7 +14,7 @@ use Rattle.kv_model.specs.Ordered.{Older}
 use Rattle.kv_model.specs.Rows.{Way, Up, Down}
 use Rattle.leaf_chains.specs.Slots.{chain_at, slot_of}
 use Rattle.row_page.specs.Rows.{Row, is_below}
-use Rattle.rows_shown.specs.Shows.{shown_at}
+use Rattle.reconcile.specs.Shows.{shown_at}
 use Rattle.update_chain.specs.EventLaws.{StandsFor}
 use Rattle.tree_dir.specs.declared.leaf.Framed.{Framed}
 use Rattle.tree_dir.specs.declared.leaf.Leaf.{Leaf}

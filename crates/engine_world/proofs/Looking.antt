@@ -9,7 +9,7 @@ use Rattle.wt_code.specs.declared.refusals.Refusal.TheVariants as refusal
 use Rattle.kv_model.specs.Machine.{Machine, Transaction, Running, of_some, transaction_of, cursors_of, Event, Nothing}
 use Rattle.kv_model.specs.Decisions.{Outcome}
 use Rattle.kv_model.specs.Told.{Tells}
-use Rattle.rows_shown.specs.Shows.{shown_at}
+use Rattle.reconcile.specs.Shows.{shown_at}
 use Rattle.snapshot.specs.Sight.{Sight}
 use Rattle.snapshot.specs.Matters.{SeesFirst}
 use Rattle.tree_dir.specs.declared.leaf.Leaf.{Leaf}

@@ -18,7 +18,7 @@ use Rattle.txn_table.specs.SessionData.{phase_in}
 use Rattle.txn_table.specs.declared.phase.Phase.{Phase}
 use Rattle.txn_table.specs.declared.phase.Phase.TheVariants as phase
 use Rattle.row_page.specs.Rows.{Row}
-use Rattle.rows_shown.specs.Shows.{shown_at}
+use Rattle.reconcile.specs.Shows.{shown_at}
 use Rattle.update_chain.specs.declared.update.Update.{Update}
 use Rattle.update_chain.specs.EventLaws.{StandsFor}
 use Rattle.update_chain.specs.FrameLaws.{durable_of, OrdersStand as OrdersLaw}

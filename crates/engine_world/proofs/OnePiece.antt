@@ -11,7 +11,7 @@ use Rattle.kv_model.specs.Holds.{Member}
 use Rattle.kv_model.specs.History.{Table, tables, has_table}
 use Rattle.kv_model.specs.Machine.{Machine, Transaction, of_some, transaction_of, name_of}
 use Rattle.kv_model.specs.Valid.{Valid}
-use Rattle.rows_shown.specs.Shows.{shown_at}
+use Rattle.reconcile.specs.Shows.{shown_at}
 use Rattle.tree_dir.specs.declared.leaf.Framed.{Framed}
 use Rattle.tree_dir.specs.declared.leaf.Leaf.{Leaf}
 use Rattle.tree_dir.specs.Leaves.{Directory, IsDirectory, leaf_under}

@@ -11,7 +11,7 @@ use Rattle.kv_model.specs.Decisions.{Outcome, Gives, GivesRow, Refused, GetAnswe
 use Rattle.kv_model.specs.Reads.{Found, ReadAnswer, Value}
 use Rattle.kv_model.specs.Rows.{is_past, AbsentBefore, RowAnswer, NextAnswer, starts_at, seek_event, row_event}
 use Rattle.kv_model.specs.Told.{Tells}
-use Rattle.rows_shown.specs.Shows.{shown_at}
+use Rattle.reconcile.specs.Shows.{shown_at}
 use Rattle.tree_dir.specs.declared.leaf.Leaf.{Leaf}
 use Rattle.update_chain.specs.Updates.{Reply, Gives as LeafGives, IsRemoved, Conflicts, IsOlder}
 use Rattle.leaf_chains.specs.Slots.{chain_at}

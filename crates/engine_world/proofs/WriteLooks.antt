@@ -25,7 +25,7 @@ use Rattle.txn_table.specs.declared.phase.Phase.{Phase as Kept}
 use Rattle.txn_table.specs.declared.phase.Phase.TheVariants as phase
 use Rattle.txn_table.specs.SessionData.{phase_in}
 use Rattle.txn_table.proofs.Standing.{calls-stand}
-use Rattle.rows_shown.specs.Shows.{shown_at}
+use Rattle.reconcile.specs.Shows.{shown_at}
 use Rattle.tree_dir.specs.declared.leaf.Leaf.{Leaf}
 use Rattle.tree_dir.specs.Leaves.{leaf_under}
 use Rattle.update_chain.specs.declared.update.Update.{Update}

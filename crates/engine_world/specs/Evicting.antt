@@ -12,7 +12,7 @@ use Rattle.kv_model.specs.Machine.{Machine}
 use Rattle.kv_model.specs.Ordered.{Older}
 use Rattle.kv_model.specs.Reconciling.{EndedWhere, PastCovers, each_one}
 use Rattle.row_page.specs.Rows.{Row}
-use Rattle.rows_shown.specs.Shows.{shown_at}
+use Rattle.reconcile.specs.Shows.{shown_at}
 use Rattle.update_chain.specs.declared.update.Update.{Update}
 use Rattle.leaf_chains.specs.Slots.{chain_at}
 use Rattle.tree_dir.specs.declared.leaf.Framed.{Framed}

@@ -5,7 +5,7 @@ use Rattle.kv_model.specs.AgreementLaws.{head_of}
 use Rattle.kv_model.specs.History.{line}
 use Rattle.kv_model.specs.Machine.{Machine}
 use Rattle.row_page.specs.Rows.{Row}
-use Rattle.rows_shown.specs.Shows.{shown_at}
+use Rattle.reconcile.specs.Shows.{shown_at}
 use Rattle.stored.specs.TableTree.{Entry}
 use Rattle.tree_dir.specs.declared.leaf.Framed.{Framed}
 use Rattle.tree_dir.specs.declared.leaf.Leaf.{Leaf}

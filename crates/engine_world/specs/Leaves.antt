@@ -9,7 +9,7 @@ use Rattle.kv_model.specs.Machine.{Machine, of_some}
 use Rattle.kv_model.specs.Ordered.{Older}
 use Rattle.kv_model.specs.Refusals.{newest_durable}
 use Rattle.row_page.specs.Rows.{Row}
-use Rattle.rows_shown.specs.Shows.{shown_at}
+use Rattle.reconcile.specs.Shows.{shown_at}
 use Rattle.update_chain.specs.declared.update.Update.{Update}
 use Rattle.update_chain.specs.EventLaws.{StandsFor}
 use Rattle.leaf_chains.specs.declared.slot.KeyChain.{KeyChain}

@@ -10,7 +10,7 @@ use Rattle.kv_model.specs.Holds.{Descends}
 use Rattle.kv_model.specs.Ordered.{Older}
 use Rattle.kv_model.specs.Reconciling.{EndedWhere, PastCovers, each_one}
 use Rattle.row_page.specs.Rows.{Row}
-use Rattle.rows_shown.specs.Shows.{shown_at}
+use Rattle.reconcile.specs.Shows.{shown_at}
 use Rattle.stored.specs.TableTree.{Entry}
 use Rattle.tree_dir.specs.declared.leaf.Framed.{Framed}
 use Rattle.tree_dir.specs.declared.leaf.Leaf.{Leaf}

@@ -1,11 +1,12 @@
 -- What the opening of a session, a create, a set, a checkpoint in one go and a failed write of the device leave of an engine that stands for a world, and with what an engine starts.
-use Rattle.std.specs.Prelude.{◌≡◌, ◌≢◌, ◌<◌, ◌≤◌, ◌+◌, ℕ, false, List, [], ◌∷◌, ◌++◌, ◌⊎◌, length, map, reverse, Option, None, Some, Ok, slice_set}
+use Rattle.std.specs.Prelude.{◌≡◌, ◌≢◌, ◌<◌, ◌≤◌, ◌+◌, ℕ, false, List, [], ◌∷◌, ◌++◌, ◌⊎◌, length, drop, map, reverse, Option, None, Some, Ok, slice_set}
 use Rattle.std.specs.List.{Contains}
 use Rattle.std.specs.Option.{option_to_list}
 use Rattle.failure.specs.declared.Fault.{Fault}
 use Rattle.item.specs.declared.Change.{Change}
 use Rattle.item.specs.declared.Formats.{Formats}
 use Rattle.stamp.specs.declared.Version.{Version}
+use Rattle.kv_model.specs.AgreementLaws.{head_of}
 use Rattle.kv_model.specs.Content.{Content, base, descending, start, table_lt}
 use Rattle.kv_model.specs.History.{Table, line}
 use Rattle.kv_model.specs.Machine.{Machine, OpenSession, CreateTable, SetStamps, CheckpointStart, CheckpointFinish, GoDown, after}
@@ -16,7 +17,7 @@ use Rattle.stored.specs.TableTree.{Entry}
 use Rattle.tree_dir.specs.declared.leaf.Leaf.{Leaf}
 use Rattle.tree_dir.specs.Leaves.{Directory, HasTable, IsDirectory, changed, in_frame, leaf_under}
 use Rattle.row_page.specs.Rows.{Row}
-use Rattle.rows_shown.specs.Shows.{shown_at}
+use Rattle.reconcile.specs.Shows.{shown_at}
 use Rattle.update_chain.specs.declared.update.Update.{Update}
 use Rattle.update_chain.specs.Updates.{unmarked_update}
 use Rattle.leaf_chains.specs.Slots.{chain_at}
@@ -31,7 +32,7 @@ use Rattle.call_steps.specs.State.{opened}
 use Rattle.call_steps.specs.Tables.{filled}
 use Rattle.engine_world.specs.Leaves.{FramesStand, IsLaid, LeavesOwned, TablesBegun, frame_in, generation_at}
 use Rattle.engine_world.specs.Stands.{Engine, Stands}
-use Rattle.engine_world.specs.Worlds.{World, Resting}
+use Rattle.engine_world.specs.Worlds.{Records, World, Resting}
 
 -- a session more, which rests
 abbrev pub with_opened : Engine → Engine
@@ -102,25 +103,31 @@ pub record IsFirstOf (versions : List (Version Change)) (chain : List Update) (r
   pub chain_is : chain ≡ map unmarked_update above
   pub all : versions ≡ above ++ option_to_list row
 
--- the leaf is in its frame, with the versions that the content keeps of the keys that lie in it, and none of others
-pub record StartsInFrame (c : Content) (shelf : ℕ → List Row) (leaves : List Leaf) (pieces : List FramePiece) (states : List ℕ) (l : Leaf) : Type 0 where
+-- the row is the newest of these versions, newest first, and these are the older ones
+pub record AreNewest (versions : List (Version Change)) (row : Option (Version Change)) (older : List (Version Change)) : Type 0 where
+  pub newest : row ≡ head_of versions
+  pub others : older ≡ drop 1 versions
+
+-- the leaf is in its frame, with the versions that the content keeps of the keys that lie in it, and none of others; the history keeps nothing of it
+pub record StartsInFrame (c : Content) (shelf : ℕ → List Row) (records : Records) (leaves : List Leaf) (pieces : List FramePiece) (states : List ℕ) (l : Leaf) : Type 0 where
   pub laid : IsLaid pieces states l
   pub keys : (key : List ℕ) → leaf_under l.table key leaves ≡ Some l → IsFirstOf (line (base c) l.table key) (chain_at key laid.frame.leaf.chains) (shown_at key laid.frame.leaf.page)
   pub bare : (key : List ℕ) → leaf_under l.table key leaves ≢ Some l → (chain_at key laid.frame.leaf.chains ≡ []) × (shown_at key laid.frame.leaf.page ≡ None)
   -- a page with rows is that of the leaf's block
   pub lies : 1 ≤ length laid.frame.leaf.page → laid.frame.leaf.page ≡ shelf l.id
+  pub none : (key : List ℕ) → records l.id key ≡ []
 
--- it is in none, and the rows of its block are those versions
-pub record StartsOnDevice (c : Content) (shelf : ℕ → List Row) (leaves : List Leaf) (l : Leaf) : Type 0 where
+-- it is in none: the rows of its block are the newest of those versions, and the history keeps the older ones
+pub record StartsOnDevice (c : Content) (shelf : ℕ → List Row) (records : Records) (leaves : List Leaf) (l : Leaf) : Type 0 where
   pub none : l.frame ≡ None
-  pub keys : (key : List ℕ) → leaf_under l.table key leaves ≡ Some l → IsFirstOf (line (base c) l.table key) [] (shown_at key (shelf l.id))
-  pub bare : (key : List ℕ) → leaf_under l.table key leaves ≢ Some l → shown_at key (shelf l.id) ≡ None
+  pub keys : (key : List ℕ) → leaf_under l.table key leaves ≡ Some l → AreNewest (line (base c) l.table key) (shown_at key (shelf l.id)) (records l.id key)
+  pub bare : (key : List ℕ) → leaf_under l.table key leaves ≢ Some l → (shown_at key (shelf l.id) ≡ None) × (records l.id key ≡ [])
 
-abbrev pub LeafStarts : Content → (ℕ → List Row) → List Leaf → List FramePiece → List ℕ → Leaf → Type 0
-LeafStarts c shelf leaves pieces states l = StartsInFrame c shelf leaves pieces states l ⊎ StartsOnDevice c shelf leaves l
+abbrev pub LeafStarts : Content → (ℕ → List Row) → Records → List Leaf → List FramePiece → List ℕ → Leaf → Type 0
+LeafStarts c shelf records leaves pieces states l = StartsInFrame c shelf records leaves pieces states l ⊎ StartsOnDevice c shelf records leaves l
 
 -- an engine that begins on this content, without a session
-pub record Begins (c : Content) (shelf : ℕ → List Row) (e : Engine) : Type 0 where
+pub record Begins (c : Content) (shelf : ℕ → List Row) (records : Records) (e : Engine) : Type 0 where
   pub fault : e.hub.fault ≡ None
   pub stamps : e.hub.stamps ≡ record { oldest = c.oldest; stable = c.stable }
   pub txns : e.hub.txns ≡ fresh (c.run + 1) 0
@@ -129,14 +136,16 @@ pub record Begins (c : Content) (shelf : ℕ → List Row) (e : Engine) : Type 0
   pub dir : IsDirectory e.hub.dir
   pub begun : TablesBegun e.hub.tables.tables e.hub.dir.leaves
   pub owned : LeavesOwned e.hub.tables.tables e.hub.dir.leaves
-  pub leaves : (l : Leaf) → Contains e.hub.dir.leaves l → LeafStarts c shelf e.hub.dir.leaves e.pieces e.states l
+  pub leaves : (l : Leaf) → Contains e.hub.dir.leaves l → LeafStarts c shelf records e.hub.dir.leaves e.pieces e.states l
+  -- and nothing of a leaf that was never made
+  pub unused : (id : ℕ) → e.hub.dir.next ≤ id → (key : List ℕ) → records id key ≡ []
   pub frames : FramesStand e.pieces e.states
   pub sessions : e.sessions ≡ []
   pub systems : map (λ x. None) e.systems ≡ e.systems
 
 -- the machine that an opening makes, with nobody at work
-abbrev pub first_world : Content → (ℕ → List Row) → Engine → World
-first_world c shelf e = record { machine = start c; sessions = []; systems = map (λ x. None) e.systems; shelf = shelf; records = λ id key. []; again = λ session. false }
+abbrev pub first_world : Content → (ℕ → List Row) → Records → Engine → World
+first_world c shelf records e = record { machine = start c; sessions = []; systems = map (λ x. None) e.systems; shelf = shelf; records = records; again = λ session. false }
 
 abbrev pub EnginesStart : Type 0
-EnginesStart = (c : Content) (shelf : ℕ → List Row) (e : Engine) → IsRegular c → Begins c shelf e → Stands e (first_world c shelf e)
+EnginesStart = (c : Content) (shelf : ℕ → List Row) (records : Records) (e : Engine) → IsRegular c → Begins c shelf records e → Stands e (first_world c shelf records e)

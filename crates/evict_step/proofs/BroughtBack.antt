@@ -16,21 +16,21 @@ use Rattle.row_page.specs.Changes.{PageChange, change_in, version_in}
 use Rattle.row_page.specs.Rows.{Ascends, Row, RowFits, is_below, key_most}
 use Rattle.row_page.proofs.Ascending.{above_differs, all_above}
 use Rattle.leaf_rows.specs.Rows.{AreFit}
-use Rattle.rows_shown.specs.Shows.{shown_at}
-use Rattle.rows_shown.proofs.Keyed.{key_self, none_above, same_key}
+use Rattle.reconcile.specs.Shows.{shown_at}
+use Rattle.reconcile.proofs.Keyed.{key_self, none_above, same_key}
 use Rattle.update_chain.specs.declared.update.Update.{Update}
 use Rattle.update_chain.specs.Updates.{installed, unmarked_update}
 use Rattle.leaf_chains.specs.Slots.{chain_at, with_update}
 use Rattle.leaf_chains.proofs.Installs.{installs_change, installs_keep}
-use Rattle.leaf_capture.specs.Capture.{ChainsFit}
-use Rattle.leaf_capture.specs.Cells.{cell_change, cell_version}
-use Rattle.leaf_capture.proofs.Fitting.{install_fits}
+use Rattle.reconcile.specs.Capture.{ChainsFit}
+use Rattle.reconcile.specs.Cells.{cell_change, cell_version}
+use Rattle.reconcile.proofs.Fitting.{install_fits}
 use Rattle.reconcile.specs.declared.image.Moved.{Moved}
 use Rattle.reconcile.specs.Held.{held_at, versions}
 use Rattle.reconcile.specs.Moving.{versions_in}
 use Rattle.leaf_frame.specs.Leaf.{HeldLeaf}
 use Rattle.engine_world.specs.Coming.{ComesFrom}
-use Rattle.evict_step.specs.Backs.{AllFit, AreNewestFirst, HasVersions, with_shown, with_version}
+use Rattle.evict_step.specs.Backs.{AllFit, AreNewestFirst, HasVersions, is_again, unlike, with_shown, with_version}
 
 -- ---- one version on top
 
@@ -275,3 +275,12 @@ none-of-length (m ∷ moved) none = absurd (omega (arith, none))
 -- all rows are put
 pub rows-put : (rows : List Row) (left : ℕ) (leaf later : HeldLeaf) → left ≡ 0 → PutsRows rows left leaf later → (held : List ℕ → List (Version Change)) → HasVersions leaf held → ((key : List ℕ) → Descends Older (with_shown rows held key)) → HasVersions later (with_shown rows held)
 rows-put rows left leaf later none p held h down = subst (λ (n : ℕ). HasVersions later (with_shown (drop n rows) held)) none (p.holds held h down)
+
+-- ---- versions that are rows
+
+pub unlike-fits : (rows : List Row) (moved : List Moved) → AllFit moved → AllFit (unlike rows moved)
+unlike-fits rows [] fit = tt
+unlike-fits rows (m ∷ moved) fit = elim (cases_Bool (is_again rows m)) [
+  | inl is ↦ rw is (unlike-fits rows moved fit.1)
+  | inr isnt ↦ rw isnt (fit.0, unlike-fits rows moved fit.1)
+]

@@ -11,7 +11,7 @@ use Rattle.kv_model.specs.Captures.{ReconciledLists}
 use Rattle.kv_model.specs.Holds.{Descends, Member}
 use Rattle.kv_model.specs.Ordered.{Older}
 use Rattle.kv_model.proofs.Finishing.{line-committed}
-use Rattle.rows_shown.specs.Shows.{shown_at}
+use Rattle.reconcile.specs.Shows.{shown_at}
 use Rattle.snapshot.specs.Matters.{AreUnended, IsLive, IsUnended}
 use Rattle.snapshot.specs.Past.{is_below}
 use Rattle.snapshot.specs.Sight.{Sight, is_listed, is_seen}

@@ -1,5 +1,7 @@
 -- Lists of what is kept, with versions that have no place in a map yet.
-use Rattle.std.specs.Prelude.{◌≡◌, ℕ, ◌<◌, ◌==◌, ◌++◌, ◌+◌, true, false, Bool, not, List, [], ◌∷◌, filter, get_or, length, take, Option, Some, None, option_map, if◌then◌else◌, refl}
+use Rattle.std.specs.Prelude.{◌≡◌, ℕ, ◌<◌, ◌==◌, ◌++◌, ◌+◌, true, false, Bool, not, List, [], ◌∷◌, filter, get_or, length, take, Option, Some, None, option_map, OnErr, OnOk, Result, Ok, Err, Vec, if◌then◌else◌, refl}
+use Rattle.std.specs.declared.alloc.Global.{Global}
+use Rattle.failure.specs.declared.NoMemory.{NoMemory}
 use Rattle.std.proofs.Common.{inl, inr, sym, ◌∙◌, ap, subst, arith}
 use Rattle.std.proofs.lemmas.Bool.{cases_Bool, cases_eq, eq-eqb, eqb-true, ne_eqb}
 use Rattle.std.proofs.lemmas.List.{append_assoc, append-nil, take_more}
@@ -10,12 +12,17 @@ use Rattle.kv_model.specs.Machine.{of_some}
 use Rattle.reconcile.specs.declared.image.Moved.{Moved}
 use Rattle.evict_step.specs.Backs.{AllFit}
 use Rattle.row_page.specs.Rows.{RowFits, key_most}
-use Rattle.leaf_capture.specs.Cells.{cell_version}
+use Rattle.reconcile.specs.Cells.{cell_version}
 use Rattle.tree_dir.specs.declared.leaf.Leaf.{Leaf}
 use Rattle.tree_dir.specs.Leaves.{leaf_under}
 use Rattle.evict_step.specs.declared.fresh.Fresh.{Fresh}
-use Rattle.evict_step.specs.Kept.{AllListsFit, KeepsAt, KeepsMore, Lists, fresh_of, lies_in, list_of, lists_in, lying_in, with_fresh}
-use Rattle.evict_step.proofs.KeptLists.{ByLeaf}
+use Rattle.evict_step.specs.Kept.{AllListsFit, KeepsAt, KeepsMore, Lists, alone_in, fresh_of, lies_in, list_of, lists_in, lying_in, with_fresh}
+use Rattle.evict_step.proofs.KeptLists.{ByLeaf, found_at, list_gone, list_put}
+
+-- what a call left, whether it failed or not
+pub by_result : {A B P : Type 0} (r : Result (Unit {0}) NoMemory) → OnOk r A → OnErr r B → (A → P) → (B → P) → P
+by_result (Ok done) ok err from_ok from_err = from_ok ok
+by_result (Err error) ok err from_ok from_err = from_err err
 
 -- ---- versions
 
@@ -112,6 +119,27 @@ more_kept before after lists more adds id =
     ∙ (ap (λ (l : List Moved). list_of lists id ++ l) (adds id)
     ∙ (sym (append_assoc (list_of lists id) (fresh_of before id) (more id)) ∙ ap (λ (l : List Moved). l ++ more id) (sym (list_fresh before lists id))))
 
+-- one more of a leaf
+one_alone : (leaf : ℕ) (one : Moved) (id : ℕ) → fresh_of (record { leaf = leaf; one = one } ∷ []) id ≡ alone_in leaf one id
+one_alone leaf one id = elim (cases_eq id leaf) [
+  | inl same ↦
+      let here : (leaf == id) ≡ true = eq-eqb leaf id (sym same) in
+      let there : (id == leaf) ≡ true = eq-eqb id leaf same in rw (here, there) refl
+  | inr other ↦
+      let here : (leaf == id) ≡ false = ne_eqb leaf id (λ e. other (sym e)) in
+      let there : (id == leaf) ≡ false = ne_eqb id leaf other in rw (here, there) refl
+]
+
+pub one_behind : (before after : List Fresh) (lists : Lists) (leaf : ℕ) (one : Moved) → after ≡ before ++ record { leaf = leaf; one = one } ∷ [] → KeepsMore (with_fresh before lists) (with_fresh after lists) (alone_in leaf one)
+one_behind before after lists leaf one is =
+    let f : Fresh = record { leaf = leaf; one = one } in
+    more_kept before after lists (alone_in leaf one)
+    (λ id. ap (λ (l : List Fresh). fresh_of l id) is ∙ (fresh-append before (f ∷ []) id ∙ ap (λ (l : List Moved). fresh_of before id ++ l) (one_alone leaf one id)))
+
+-- where none is without a place
+pub one_listed : (fresh : List Fresh) (lists next : Lists) (leaf : ℕ) (one : Moved) → fresh ≡ [] → KeepsMore lists next (alone_in leaf one) → KeepsMore (with_fresh fresh lists) (with_fresh fresh next) (alone_in leaf one)
+one_listed fresh lists next leaf one none keeps = subst (λ (f : List Fresh). KeepsMore (with_fresh f lists) (with_fresh f next) (alone_in leaf one)) (sym none) keeps
+
 -- one list of all that a leaf has
 pub same_kept : (lists next : Lists) (leaf : ℕ) (moved : List Moved) → moved ≡ list_of lists leaf → KeepsAt lists next leaf moved → (id : ℕ) → list_of next id ≡ list_of lists id
 same_kept lists next leaf moved is keeps id =
@@ -161,3 +189,8 @@ pub fit_more : (before lists : Lists) (leaves : List Leaf) (table : ℕ) (moved 
 fit_more before lists leaves table moved fit own keeps id =
     let Fits : Moved → Type 0 = λ m. RowFits [] key_most (m.key, cell_version m.version) in
     subst AllFit (sym (keeps id)) (all_join Fits (list_of before id) (lying_in leaves table moved id) (fit id) (all_filtered Fits (λ (m : Moved). lies_in leaves table id m.key) moved own))
+
+pub fit_one : (before lists : Lists) (leaf : ℕ) (one : Moved) → AllListsFit before → AllFit (one ∷ []) → KeepsMore before lists (alone_in leaf one) → AllListsFit lists
+fit_one before lists leaf one fit own keeps id =
+    let Fits : Moved → Type 0 = λ m. RowFits [] key_most (m.key, cell_version m.version) in
+    subst AllFit (sym (keeps id)) (all_join Fits (list_of before id) (alone_in leaf one id) (fit id) (elim (cases_Bool (id == leaf)) [ inl is ↦ rw is own | inr isnt ↦ rw isnt tt ]))

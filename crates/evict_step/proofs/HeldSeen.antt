@@ -12,7 +12,7 @@ use Rattle.kv_model.proofs.ReconciledKeys.{cell-member, member-cell}
 use Rattle.row_page.specs.Changes.{PageChange, version_in}
 use Rattle.row_page.specs.Rows.{Row}
 use Rattle.leaf_rows.specs.Rows.{AreFit, version_at}
-use Rattle.rows_shown.specs.Shows.{shown_at}
+use Rattle.reconcile.specs.Shows.{shown_at}
 use Rattle.snapshot.specs.Sight.{Sight, is_seen}
 use Rattle.update_chain.specs.declared.update.Update.{Update}
 use Rattle.update_chain.proofs.Below.{member-append-left, member-append-right}

@@ -7,3 +7,4 @@ pub mod BroughtBack
 pub mod MovedFit
 pub mod KeptLists
 pub mod FreshLists
+pub mod Again

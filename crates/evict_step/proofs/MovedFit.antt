@@ -14,13 +14,13 @@ use Rattle.kv_model.proofs.ReconciledKeys.{member-cell}
 use Rattle.row_page.specs.Changes.{version_in}
 use Rattle.row_page.specs.Rows.{Row, RowFits, key_most}
 use Rattle.leaf_rows.specs.Rows.{AreFit}
-use Rattle.rows_shown.specs.Shows.{shown_at}
-use Rattle.rows_shown.proofs.Keyed.{key_self, same_key}
+use Rattle.reconcile.specs.Shows.{shown_at}
+use Rattle.reconcile.proofs.Keyed.{key_self, same_key}
 use Rattle.update_chain.specs.declared.update.Update.{Update}
 use Rattle.leaf_chains.specs.declared.slot.KeyChain.{KeyChain}
 use Rattle.leaf_chains.specs.Slots.{chain_at}
-use Rattle.leaf_capture.specs.Capture.{ChainFits, ChainsFit}
-use Rattle.leaf_capture.specs.Cells.{cell_version}
+use Rattle.reconcile.specs.Capture.{ChainFits, ChainsFit}
+use Rattle.reconcile.specs.Cells.{cell_version}
 use Rattle.reconcile.specs.declared.image.Moved.{Moved}
 use Rattle.reconcile.specs.Held.{held_at, moved_of, versions}
 use Rattle.reconcile.specs.Moving.{versions_in}

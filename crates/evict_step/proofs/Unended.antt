@@ -9,7 +9,7 @@ use Rattle.stamp.specs.declared.Name.{Name}
 use Rattle.stamp.specs.declared.Version.{Version}
 use Rattle.kv_model.specs.Holds.{Member}
 use Rattle.kv_model.proofs.Finishing.{line-committed}
-use Rattle.rows_shown.specs.Shows.{shown_at}
+use Rattle.reconcile.specs.Shows.{shown_at}
 use Rattle.snapshot.specs.Matters.{AreUnended, IsLive, IsUnended, SeesNoneLiving}
 use Rattle.snapshot.specs.Sight.{Sight, is_listed, is_seen}
 use Rattle.txn_table.specs.Checkpoints.{EndedIsSeen}

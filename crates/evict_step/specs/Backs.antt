@@ -1,15 +1,17 @@
 -- A leaf that was evicted, as it comes back: its rows, and below them what moved to the history.
-use Rattle.std.specs.Prelude.{◌≡◌, ℕ, List, [], ◌∷◌, ◌++◌, map, bytes_eq, if◌then◌else◌}
+use Rattle.std.specs.Prelude.{◌≡◌, ℕ, Bool, false, not, List, [], ◌∷◌, ◌++◌, filter, map, bytes_eq, if◌then◌else◌}
 use Rattle.std.specs.List.{AllByRecursion}
 use Rattle.std.specs.Option.{option_to_list}
 use Rattle.item.specs.declared.Change.{Change}
 use Rattle.stamp.specs.declared.Version.{Version}
+use Rattle.kv_model.specs.History.{name_eq}
 use Rattle.kv_model.specs.Holds.{Descends}
+use Rattle.kv_model.specs.Machine.{of_some}
 use Rattle.kv_model.specs.Ordered.{Older}
 use Rattle.row_page.specs.Rows.{Row, RowFits, key_most}
-use Rattle.rows_shown.specs.Shows.{shown_at}
+use Rattle.reconcile.specs.Shows.{shown_at}
 use Rattle.update_chain.specs.Updates.{unmarked_update}
-use Rattle.leaf_capture.specs.Cells.{cell_version}
+use Rattle.reconcile.specs.Cells.{cell_version}
 use Rattle.leaf_chains.specs.Slots.{chain_at}
 use Rattle.reconcile.specs.declared.image.Moved.{Moved}
 use Rattle.reconcile.specs.Moving.{versions_in}
@@ -22,6 +24,16 @@ AllFit moved = AllByRecursion (λ (m : Moved). RowFits [] key_most (m.key, cell_
 -- of each key the row and what moved, newest first
 abbrev pub AreNewestFirst : List Row → List Moved → Type 0
 AreNewestFirst rows moved = (key : List ℕ) → Descends Older (option_to_list (shown_at key rows) ++ versions_in key moved)
+
+-- ---- versions that are rows
+
+-- the row of its key has its name
+abbrev pub is_again : List Row → Moved → Bool
+is_again rows m = of_some false (λ (v : Version Change). name_eq v.window.name m.version.window.name) (shown_at m.key rows)
+
+-- without those that are rows
+abbrev pub unlike : List Row → List Moved → List Moved
+unlike rows moved = filter (λ m. not (is_again rows m)) moved
 
 -- ---- a leaf without a page
 

@@ -1,17 +1,17 @@
 //! A leaf that comes back.
 
-ghost use Rattle.std.specs.Prelude.{◌≡◌, ℕ, [], List, IfOk, OnOk};
+ghost use Rattle.std.specs.Prelude.{◌≡◌, ◌≤◌, ℕ, [], List, length, IfOk, OnOk};
 ghost use Rattle.item.specs.declared.Change.{Change as AChange};
 ghost use Rattle.stamp.specs.declared.Version.{Version as AVersion};
 ghost use Rattle.kv_model.specs.Holds.{Descends};
 ghost use Rattle.kv_model.specs.Ordered.{Older};
 ghost use Rattle.row_page.specs.Rows.{RowFits, key_most};
 ghost use Rattle.leaf_rows.specs.Rows.{AreFit};
-ghost use Rattle.leaf_capture.specs.Capture.{ChainsFit};
-ghost use Rattle.leaf_capture.specs.Cells.{cell_version};
+ghost use Rattle.reconcile.specs.Capture.{ChainsFit};
+ghost use Rattle.reconcile.specs.Cells.{cell_version};
 ghost use Rattle.reconcile.specs.Moving.{versions_in};
 ghost use Rattle.engine_world.specs.Coming.{ComesFrom};
-ghost use Rattle.evict_step.specs.Backs.{AllFit, AreNewestFirst, HasVersions, with_shown, with_version};
+ghost use Rattle.evict_step.specs.Backs.{AllFit, AreNewestFirst, HasVersions, is_again, unlike, with_shown, with_version};
 
 use failure::NoMemory;
 use item::Change;
@@ -23,13 +23,49 @@ use std::alloc::Global;
 use update_chain::Update;
 
 /// The leaf that was read from its block, a page under no chains, with the versions below its rows that
-/// moved to the history when it was evicted. Where none moved, it is the leaf as it was read; else all
-/// that it holds is in its chains, since a row of a page is the oldest version of its key. The error is
-/// want of memory. `O(rows + versions)` installs, and a copy of each row where a version moved.
-pub fn bring_back(alloc: Global, read: LeafFrame, moved: Vec<Moved>) -> Result<LeafFrame, NoMemory>
+/// the history has of it. One that has the name of its key's row is that row, and comes once. Where no
+/// other comes, it is the leaf as it was read; else all that it holds is in its chains, since a row of a
+/// page is the oldest version of its key. The error is want of memory. `O(rows + versions)` installs, and
+/// a copy of each row where a version comes.
+pub fn bring_back(
+    alloc: Global,
+    read: LeafFrame,
+    mut moved: Vec<Moved>,
+) -> Result<LeafFrame, NoMemory>
+    requires bare { read.chains ≡ [] }
+    requires moved { AllFit moved.items }
+    ensures comes { IfOk result (λ leaf. AreNewestFirst read.page (unlike read.page moved.items) → ComesFrom leaf read.page (λ key. versions_in key (unlike read.page moved.items))) }
+    ensures alone { IfOk result (λ leaf. AreNewestFirst read.page (unlike read.page moved.items) → 1 ≤ length leaf.page → unlike read.page moved.items ≡ []) }
+    ensures fit { IfOk result (λ leaf. ChainsFit leaf.chains) }
+{
+    drop_again(&mut moved, &read);
+    bring_others(alloc, read, moved)
+}
+
+// Those that are rows of the leaf go.
+fn drop_again(moved: &mut Vec<Moved>, read: &LeafFrame)
+    ensures is { moved.new.items ≡ unlike read.now.page moved.old.items }
+    ensures fit { AllFit moved.old.items → AllFit moved.new.items }
+{
+    moved.retain(|one| !is_again(read, one));
+}
+
+// Whether the row of its key has its name.
+fn is_again(read: &LeafFrame, one: &Moved) -> bool
+    ensures { result ≡ is_again read.now.page one.now }
+{
+    match read.row(one.key.as_bytes()) {
+        None => false,
+        Some(cell) => cell.window.name == one.version.window.name,
+    }
+}
+
+// The leaf that was read, with versions below its rows.
+fn bring_others(alloc: Global, read: LeafFrame, moved: Vec<Moved>) -> Result<LeafFrame, NoMemory>
     requires bare { read.chains ≡ [] }
     requires moved { AllFit moved.items }
     ensures comes { IfOk result (λ leaf. AreNewestFirst read.page moved.items → ComesFrom leaf read.page (λ key. versions_in key moved.items)) }
+    ensures alone { IfOk result (λ leaf. AreNewestFirst read.page moved.items → 1 ≤ length leaf.page → moved.items ≡ []) }
     ensures fit { IfOk result (λ leaf. ChainsFit leaf.chains) }
 {
     if moved.as_slice().is_empty() {

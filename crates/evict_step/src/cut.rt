@@ -1,7 +1,7 @@
 //! What a leaf is cut into.
 
 ghost use Rattle.std.specs.Prelude.{◌≡◌, None, MatchOption, option_map, IfOk, IfSome};
-ghost use Rattle.leaf_capture.specs.Capture.{ChainsFit};
+ghost use Rattle.reconcile.specs.Capture.{ChainsFit};
 ghost use Rattle.evict_step.specs.Cuts.{AllOfEnded, IsCutOf, IsCutOut, IsOfUnended, TellsUnended, held_in};
 
 use crate::held::unresolved_in;

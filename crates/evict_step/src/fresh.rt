@@ -1,7 +1,8 @@
 // Versions of leaves that parted, each with the id of its leaf.
-ghost use Rattle.std.specs.Prelude.{◌≡◌, ◌==◌, ◌++◌, ◌+◌, ◌≤◌, ◌<◌, ◌∷◌, ℕ, [], filter, length, not, vec_capacity};
+ghost use Rattle.std.specs.Prelude.{◌≡◌, ◌==◌, ◌++◌, ◌+◌, ◌≤◌, ◌<◌, ◌∷◌, ℕ, [], filter, length, not, vec_capacity, OnErr, OnOk};
 ghost use Rattle.evict_step.specs.Kept.{fresh_of, lying_in};
 
+use failure::NoMemory;
 use reconcile::Moved;
 use tree_dir::Dir;
 
@@ -17,6 +18,17 @@ pub(crate) fn drop_of(fresh: &mut Vec<Fresh>, leaf: u64)
     ensures { fresh.new.items ≡ filter (λ f. not (f.leaf == leaf)) fresh.old.items }
 {
     fresh.retain(|f| f.leaf != leaf);
+}
+
+// One more goes behind these. Without memory they are as they were.
+pub(crate) fn put_behind(fresh: &mut Vec<Fresh>, leaf: u64, one: Moved) -> Result<(), NoMemory>
+    ensures put { OnOk result (fresh.new.items ≡ fresh.old.items ++ record { leaf = leaf; one = one } ∷ []) }
+    ensures same { OnErr result (fresh.new.items ≡ fresh.old.items) }
+{
+    match fresh.push(Fresh { leaf, one }) {
+        Ok(()) => Ok(()),
+        Err(_) => Err(NoMemory),
+    }
 }
 
 // Others go behind these, for which there is room.

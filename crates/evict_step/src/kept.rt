@@ -1,9 +1,9 @@
 // Versions of leaves that are in no frame.
 ghost use Rattle.std.specs.Prelude.{◌≡◌, ◌++◌, ◌+◌, ◌≤◌, ◌∷◌, ℕ, [], length, vec_capacity, IfOk, OnErr, OnOk};
 ghost use Rattle.evict_step.specs.Backs.{AllFit};
-ghost use Rattle.evict_step.specs.Kept.{KeepsAt, KeepsMore, fresh_of, list_of, lists_in, lying_in};
+ghost use Rattle.evict_step.specs.Kept.{KeepsAt, KeepsMore, alone_in, fresh_of, list_of, lists_in, lying_in};
 
-use crate::fresh::{Fresh, drop_of, put_moved, put_over};
+use crate::fresh::{Fresh, drop_of, put_behind, put_moved, put_over};
 use failure::NoMemory;
 use reconcile::Moved;
 use stamp::Version;
@@ -74,6 +74,20 @@ impl Kept {
     {
         let _ = self.by_leaf.remove(&leaf);
         drop_of(&mut self.fresh, leaf);
+    }
+
+    /// One more version is kept of a leaf, behind the others. Without memory all is as it was. `O(log n)`
+    /// in the leaves of which something is kept.
+    pub fn push(&mut self, alloc: Global, leaf: u64, one: Moved) -> Result<(), NoMemory>
+        requires fit { AllFit (one ∷ []) }
+        ensures kept { OnOk result (KeepsMore self.old self.new (alone_in leaf one)) }
+        ensures same { OnErr result (self.new ≡ self.old) }
+    {
+        if self.fresh.is_empty() {
+            push_in(alloc, &mut self.by_leaf, leaf, one)
+        } else {
+            put_behind(&mut self.fresh, leaf, one)
+        }
     }
 
     /// A second list of what is kept of a leaf, none where nothing is. `O(log n)`, and `O(bytes)` of it,
@@ -207,6 +221,50 @@ impl Kept {
     {
         let moved = self.copy_of(alloc, leaf)?;
         self.put(leaf, moved)
+    }
+}
+
+// One more version is in the list of a leaf. Without memory all lists are as they were.
+fn push_in(
+    alloc: Global,
+    by_leaf: &mut BTreeMap<u64, Vec<Moved>>,
+    leaf: u64,
+    one: Moved,
+) -> Result<(), NoMemory>
+    ensures kept { OnOk result (KeepsMore (lists_in by_leaf.old.entries) (lists_in by_leaf.new.entries) (alone_in leaf one)) }
+    ensures same { OnErr result (lists_in by_leaf.new.entries ≡ lists_in by_leaf.old.entries) }
+{
+    match by_leaf.get_mut(&leaf) {
+        Some(moved) => push_behind(moved, one),
+        None => put_alone(alloc, by_leaf, leaf, one),
+    }
+}
+
+// A leaf of which the map has nothing has a list of this version.
+fn put_alone(
+    alloc: Global,
+    by_leaf: &mut BTreeMap<u64, Vec<Moved>>,
+    leaf: u64,
+    one: Moved,
+) -> Result<(), NoMemory>
+    ensures put { OnOk result (KeepsAt (lists_in by_leaf.old.entries) (lists_in by_leaf.new.entries) leaf (one ∷ [])) }
+    ensures same { OnErr result (by_leaf.new.entries ≡ by_leaf.old.entries) }
+{
+    let mut moved = Vec::new(alloc);
+    push_behind(&mut moved, one)?;
+    match by_leaf.insert(leaf, moved) {
+        Ok(_) => Ok(()),
+        Err(_) => Err(NoMemory),
+    }
+}
+
+fn push_behind(moved: &mut Vec<Moved>, one: Moved) -> Result<(), NoMemory>
+    ensures pushed { OnOk result (moved.new.items ≡ moved.old.items ++ one ∷ []) }
+    ensures same { OnErr result (moved.new.items ≡ moved.old.items) }
+{
+    match moved.push(one) {
+        Ok(()) => Ok(()),
+        Err(_) => Err(NoMemory),
     }
 }
 

@@ -1,6 +1,6 @@
 // A leaf that is evicted and comes back from its image and what moved, and what keeps a leaf from it.
 ghost use Rattle.leaf_rows.specs.Rows.{AreFit};
-ghost use Rattle.leaf_capture.specs.Capture.{ChainsFit};
+ghost use Rattle.reconcile.specs.Capture.{ChainsFit};
 ghost use Rattle.evict_step.specs.Backs.{AllFit};
 
 use catalog::Catalog;

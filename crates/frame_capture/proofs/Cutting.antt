@@ -5,14 +5,14 @@ use Rattle.std.proofs.lemmas.Option.{same_Some}
 use Rattle.item.specs.declared.Change.{Change}
 use Rattle.stamp.specs.declared.Version.{Version}
 use Rattle.kv_model.specs.StoreLaws.{or_else}
-use Rattle.rows_shown.specs.Shows.{shown_at}
-use Rattle.rows_shown.proofs.Keyed.{of_key_rows}
+use Rattle.reconcile.specs.Shows.{shown_at}
+use Rattle.reconcile.proofs.Keyed.{of_key_rows}
 use Rattle.snapshot.specs.Sight.{Sight, is_seen}
 use Rattle.update_chain.specs.declared.update.Update.{Update}
 use Rattle.leaf_chains.specs.Slots.{chain_at}
-use Rattle.leaf_capture.specs.Capture.{captured}
-use Rattle.leaf_capture.proofs.Cutting.{agrees}
-use Rattle.leaf_capture.proofs.Picking.{captured_seen}
+use Rattle.reconcile.specs.Capture.{captured}
+use Rattle.reconcile.proofs.CaptureCutting.{agrees}
+use Rattle.reconcile.proofs.Picking.{captured_seen}
 use Rattle.frame_capture.specs.Capture.{captured_over, seen_row}
 use Rattle.frame_capture.specs.CutLaws.{CapturesAreCut}
 use Rattle.frame_capture.proofs.Newest.{captures-newest}

@@ -17,9 +17,9 @@ use Rattle.update_chain.specs.declared.update.Update.{Update}
 use Rattle.update_chain.specs.Updates.{unmarked_update, update_in}
 use Rattle.update_chain.proofs.Meeting.{back}
 use Rattle.leaf_chains.specs.Slots.{chain_at}
-use Rattle.rows_shown.specs.Shows.{shown_at}
-use Rattle.leaf_capture.proofs.Newest.{back_all, back_parts, newest_held, top_unseen}
-use Rattle.leaf_capture.proofs.Picking.{captured_below, captured_here}
+use Rattle.reconcile.specs.Shows.{shown_at}
+use Rattle.reconcile.proofs.Newest.{back_all, back_parts, newest_held, top_unseen}
+use Rattle.reconcile.proofs.Picking.{captured_below, captured_here}
 use Rattle.frame_capture.specs.Capture.{captured_over, seen_row}
 use Rattle.frame_capture.specs.Laws.{CapturedRowsAreNewest, CapturesAreNewest}
 

@@ -5,11 +5,11 @@ use Rattle.stamp.specs.declared.version.Version.{Version}
 use Rattle.kv_model.specs.StoreLaws.{or_else}
 use Rattle.row_page.specs.Rows.{Row}
 use Rattle.leaf_rows.specs.Rows.{AreFit}
-use Rattle.rows_shown.specs.Shows.{shown_at}
+use Rattle.reconcile.specs.Shows.{shown_at}
 use Rattle.snapshot.specs.Sight.{Sight, is_seen}
 use Rattle.update_chain.specs.declared.update.Update.{Update}
 use Rattle.leaf_chains.specs.Slots.{chain_at}
-use Rattle.leaf_capture.specs.Capture.{captured}
+use Rattle.reconcile.specs.Capture.{captured}
 use Rattle.leaf_frame.specs.Leaf.{HeldLeaf}
 
 -- the version of a row, where the snapshot sees its name

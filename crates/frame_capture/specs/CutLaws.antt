@@ -5,13 +5,13 @@ use Rattle.kv_model.specs.Content.{Content, base}
 use Rattle.kv_model.specs.History.{line, core, cut}
 use Rattle.kv_model.specs.Machine.{Machine}
 use Rattle.kv_model.specs.Valid.{Valid}
-use Rattle.rows_shown.specs.Shows.{shown_at}
+use Rattle.reconcile.specs.Shows.{shown_at}
 use Rattle.snapshot.specs.Matters.{SeesCommitted}
 use Rattle.snapshot.specs.Sight.{Sight}
 use Rattle.update_chain.specs.EventLaws.{StandsFor}
 use Rattle.leaf_chains.specs.Slots.{chain_at}
-use Rattle.leaf_capture.specs.CutLaws.{HoldsRows, NewestSuffices}
-use Rattle.leaf_capture.specs.Laws.{NoCommitResolves}
+use Rattle.reconcile.specs.CutLaws.{HoldsRows, NewestSuffices}
+use Rattle.reconcile.specs.CaptureLaws.{NoCommitResolves}
 use Rattle.leaf_frame.specs.Leaf.{HeldLeaf}
 use Rattle.frame_capture.specs.Capture.{IsCaptured}
 

@@ -8,13 +8,13 @@ use Rattle.kv_model.specs.AgreementLaws.{head_of}
 use Rattle.kv_model.specs.History.{line}
 use Rattle.kv_model.specs.Machine.{Machine}
 use Rattle.kv_model.specs.Valid.{Valid}
-use Rattle.rows_shown.specs.Shows.{shown_at}
+use Rattle.reconcile.specs.Shows.{shown_at}
 use Rattle.snapshot.specs.Matters.{NoneResolves, SeesCommitted}
 use Rattle.snapshot.specs.Sight.{Sight, is_seen}
 use Rattle.update_chain.specs.declared.update.Update.{Update}
 use Rattle.update_chain.specs.EventLaws.{StandsFor}
 use Rattle.leaf_chains.specs.Slots.{chain_at}
-use Rattle.leaf_capture.specs.Laws.{NoCommitResolves}
+use Rattle.reconcile.specs.CaptureLaws.{NoCommitResolves}
 use Rattle.reconcile.specs.declared.live.Live.{Live}
 use Rattle.reconcile.specs.Held.{IsReconciled, is_live, lives}
 use Rattle.leaf_frame.specs.Leaf.{HeldLeaf}

@@ -12,8 +12,8 @@ use Rattle.kv_model.specs.Holds.{Member}
 use Rattle.kv_model.specs.History.{Table, has_table}
 use Rattle.row_page.specs.Changes.{PageChange}
 use Rattle.row_page.specs.Rows.{RowFits, key_most}
-use Rattle.rows_shown.proofs.Keyed.{key_self, same_key}
-use Rattle.leaf_capture.specs.Cells.{cell_change, cell_version}
+use Rattle.reconcile.proofs.Keyed.{key_self, same_key}
+use Rattle.reconcile.specs.Cells.{cell_change, cell_version}
 use Rattle.stored.specs.HistoryTree.{RecordFits}
 use Rattle.reconcile.specs.declared.image.Moved.{Moved}
 use Rattle.reconcile.specs.Moving.{versions_in}

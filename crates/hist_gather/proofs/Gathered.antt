@@ -1,8 +1,9 @@
 -- What is gathered of all leaves is what a checkpoint wants.
-use Rattle.std.specs.Prelude.{◌≡◌, ℕ, ◌<◌, List, [], ◌++◌, length, Option, Some, None, option_and_then, option_map, reverse, slice_get, refl}
+use Rattle.std.specs.Prelude.{◌≡◌, ◌⊎◌, ℕ, ◌<◌, List, [], ◌∷◌, ◌++◌, length, Option, Some, None, option_and_then, option_map, reverse, slice_get, refl}
 use Rattle.std.specs.List.{Contains}
 use Rattle.std.specs.Option.{option_to_list}
 use Rattle.std.proofs.Common.{inl, inr, sym, ◌∙◌, ap, subst}
+use Rattle.std.proofs.lemmas.List.{append-nil}
 use Rattle.std.proofs.lemmas.Option.{same_Some}
 use Rattle.item.specs.declared.Change.{Change}
 use Rattle.stamp.specs.declared.Version.{Version}
@@ -13,11 +14,12 @@ use Rattle.kv_model.specs.History.{Table, line}
 use Rattle.kv_model.specs.Machine.{Machine}
 use Rattle.kv_model.specs.StoreLaws.{Held}
 use Rattle.kv_model.specs.SweepLaws.{Added}
-use Rattle.rows_shown.specs.Shows.{shown_at}
+use Rattle.reconcile.specs.Shows.{shown_at}
 use Rattle.snapshot.specs.Matters.{NoneResolves}
 use Rattle.update_chain.specs.declared.update.Update.{Update}
 use Rattle.leaf_chains.specs.Slots.{chain_at}
 use Rattle.reconcile.specs.Held.{held_at, is_past, moved_of, versions}
+use Rattle.reconcile.specs.Moving.{versions_in}
 use Rattle.leaf_frame.specs.Leaf.{HeldLeaf}
 use Rattle.tree_dir.specs.declared.leaf.Framed.{Framed}
 use Rattle.tree_dir.specs.declared.leaf.Leaf.{Leaf}
@@ -28,15 +30,20 @@ use Rattle.engine_world.specs.Leaves.{LeafInFrame, LeafOnDevice, frame_in}
 use Rattle.engine_world.specs.Stands.{Engine, Stands}
 use Rattle.engine_world.specs.Worlds.{World}
 use Rattle.engine_world.proofs.Homes.{LiesIn, lies-or-not}
-use Rattle.evict_step.specs.Kept.{KeepsThese}
+use Rattle.evict_step.specs.Kept.{KeepsThese, but_rows, list_of, records_in}
+use Rattle.evict_step.proofs.Again.{other_or_row, others_among}
 use Rattle.hist_store.specs.declared.key_history.KeyHistory.{KeyHistory}
 use Rattle.hist_store.specs.Versions.{versions_of}
 use Rattle.ckpt_content.specs.Older.{HaveOlder, checkpoint_now}
 use Rattle.hist_gather.specs.declared.source.Source.{Source}
 use Rattle.hist_gather.specs.Added.{HasMore}
 use Rattle.hist_gather.specs.Sources.{IsTaken, OfPlaces, held_by, moved_at, older_at, older_in, sees}
-use Rattle.hist_gather.proofs.KeyGathered.{Laws, device-held, frame-held, set-held}
+use Rattle.hist_gather.proofs.KeyGathered.{Laws, device-held, frame-held, row-newest, set-held, wider-held}
 use Rattle.hist_gather.proofs.Members.{in_front, in_table, member_at, table_in, turned_member}
+
+no-member : (l : List (Version Change)) → ((v : Version Change) → Member v l → ⊥) → l ≡ []
+no-member [] none = refl
+no-member (v ∷ l) none = absurd (none v (inl refl))
 
 module _ (laws : Laws) (from : Source) (w : World) (st : Stands from.engine.now w) (keeps : KeepsThese w from.kept.now) (none : w.machine.checkpoint ≡ None) (resolves : NoneResolves w.machine) (taken : IsTaken w.machine from.snapshot.now.sight from.horizon) where
   abbrev e : Engine
@@ -78,15 +85,38 @@ module _ (laws : Laws) (from : Source) (w : World) (st : Stands from.engine.now 
   -- ---- a leaf in none
 
   module _ (l : Leaf) (f : LeafOnDevice m w.shelf w.records d.leaves l) where
-    older-kept : (key : List ℕ) → older_at from l key ≡ w.records l.id key
-    older-kept key = ap (λ (o : Option HeldLeaf). older_in from l.id o key) (ap (option_and_then (λ (framed : Framed). option_map (λ (g : Frame). g.leaf) (frame_in e.pieces framed.frame))) f.none) ∙ sym (keeps l.id key)
+    abbrev all : List ℕ → List (Version Change)
+    all key = records_in from.kept.now l.id key
+
+    older-kept : (key : List ℕ) → older_at from l key ≡ all key
+    older-kept key = ap (λ (o : Option HeldLeaf). older_in from l.id o key) (ap (option_and_then (λ (framed : Framed). option_map (λ (g : Frame). g.leaf) (frame_in e.pieces framed.frame))) f.none)
+
+    -- what the history has of the leaf is kept of it
+    among : (key : List ℕ) (v : Version Change) → Member v (w.records l.id key ++ []) → Member v (all key ++ [])
+    among key v there =
+        in_front (all key) [] v (others_among (w.shelf l.id) (list_of from.kept.now l.id) key v (subst (λ (vs : List (Version Change)). Member v vs) (append-nil (w.records l.id key) ∙ keeps l.id key) there))
+
+    -- what is kept besides is the row of its key, which is the newest version
+    stands-in : (key : List ℕ) (captured : IsCaptured l.table key (w.records l.id key ++ [])) → LiesIn d.leaves l key → (v : Version Change) → Member v (all key ++ []) → Member v (line m.history l.table key)
+    stands-in key captured lies v there =
+        elim (other_or_row (w.shelf l.id) (list_of from.kept.now l.id) key v (subst (λ (vs : List (Version Change)). Member v vs) (append-nil (all key)) there)) [
+          | inl other ↦ captured.within v (in_front (w.records l.id key) [] v (subst (λ (vs : List (Version Change)). Member v vs) (sym (keeps l.id key)) other))
+          | inr row ↦ captured.cell_there v (sym (row-newest laws m st.valid none resolves l.table key (shown_at key (w.shelf l.id)) (w.records l.id key) (f.keys key lies)) ∙ row)
+        ]
 
     kept-own : (key : List ℕ) → LiesIn d.leaves l key → IsCaptured l.table key (older_at from l key ++ [])
-    kept-own key lies = subst (λ (older : List (Version Change)). IsCaptured l.table key (older ++ [])) (sym (older-kept key))
-        (device-held laws m st.valid none resolves l.table key (shown_at key (w.shelf l.id)) (w.records l.id key) (f.keys key lies))
+    kept-own key lies =
+        let captured : IsCaptured l.table key (w.records l.id key ++ []) = device-held laws m st.valid none resolves l.table key (shown_at key (w.shelf l.id)) (w.records l.id key) (f.keys key lies) in
+        subst (λ (older : List (Version Change)). IsCaptured l.table key (older ++ [])) (sym (older-kept key))
+        (wider-held laws m st.valid none resolves l.table key (head_of (line m.history l.table key)) (w.records l.id key ++ []) (all key ++ []) (among key) (stands-in key captured lies) captured)
 
+    -- a key that lies elsewhere has no row, and nothing in the history
     kept-other : (key : List ℕ) → (LiesIn d.leaves l key → ⊥) → older_at from l key ≡ []
-    kept-other key outside = older-kept key ∙ (f.bare key outside).1
+    kept-other key outside = older-kept key ∙ no-member (all key) (λ v there. none-there v (other_or_row (w.shelf l.id) (list_of from.kept.now l.id) key v there))
+      where
+        none-there : (v : Version Change) → Member v (versions_in key (but_rows (w.shelf l.id) (list_of from.kept.now l.id))) ⊎ (shown_at key (w.shelf l.id) ≡ Some v) → ⊥
+        none-there v (inl other) = subst (λ (vs : List (Version Change)). Member v vs) (sym (keeps l.id key) ∙ (f.bare key outside).1) other
+        none-there v (inr row) = let clash : None ≡ Some v = sym (f.bare key outside).0 ∙ row in cc
 
   -- ---- a leaf
 

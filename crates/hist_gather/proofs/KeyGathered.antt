@@ -126,6 +126,28 @@ module _ (laws : Laws) (m : Machine) (valid : Valid m) (none : m.checkpoint ≡ 
   device-held row records stands = subst (λ (l : List (Version Change)). CapturedIn m (checkpoint_now m) table key (head_of (line m.history table key)) (Held l)) (sym (append-nil records))
       (newest row records (laws.rests started (checkpoint_now m) table key row records still refl (laws.leaves m CheckpointStart table key row records valid allowed tt stands)))
 
+  -- the row of such a leaf is the newest version
+  pub row-newest : (row : Option (Version Change)) (records : List (Version Change)) → StandsFor m table key [] row records → row ≡ head_of (line m.history table key)
+  row-newest row records stands =
+      newest-of (is_in m.history (length m.history)) (is_by m.oldest) (line m.history table key) row (Held records)
+      (laws.rests started (checkpoint_now m) table key row records still refl (laws.leaves m CheckpointStart table key row records valid allowed tt stands)) (line-descends m.history valid.orderly table key) in-line
+
+  -- with more versions that stand they are all the more
+  pub wider-held : (cell : Option (Version Change)) (some more : List (Version Change)) → ((v : Version Change) → Member v some → Member v more) → ((v : Version Change) → Member v more → Member v (line m.history table key)) → CapturedIn m (checkpoint_now m) table key cell (Held some)
+      → CapturedIn m (checkpoint_now m) table key cell (Held more)
+  wider-held cell some more among within captured = record {
+    cell_there = captured.cell_there;
+    within = within;
+    all = λ v there is. elim (captured.all v there is) [
+      | inl either ↦ elim either [
+        | inl own ↦ inl (inl own)
+        | inr held ↦ inl (inr (among v held))
+      ]
+      | inr covered ↦ inr covered
+    ];
+    top = captured.top;
+  }
+
   -- ---- in a set by names
 
   pub set-held : (older later : List (Version Change)) → Added [] older later → CapturedIn m (checkpoint_now m) table key (head_of (line m.history table key)) (Held (older ++ [])) → CapturedIn m (checkpoint_now m) table key (head_of (line m.history table key)) (Held later)

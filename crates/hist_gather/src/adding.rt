@@ -2,7 +2,7 @@
 ghost use Rattle.std.specs.Prelude.{◌≡◌, ◌∷◌, List, [], true, OnOk};
 ghost use Rattle.kv_model.specs.History.{Table, has_table};
 ghost use Rattle.row_page.specs.Rows.{RowFits, key_most};
-ghost use Rattle.leaf_capture.specs.Cells.{cell_version};
+ghost use Rattle.reconcile.specs.Cells.{cell_version};
 ghost use Rattle.evict_step.specs.Backs.{AllFit};
 ghost use Rattle.hist_pages.specs.Records.{Fits};
 ghost use Rattle.hist_gather.specs.Added.{AreKnown, HasMore, OfMoved};

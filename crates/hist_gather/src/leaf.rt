@@ -1,6 +1,6 @@
 // The older versions of one leaf.
 ghost use Rattle.std.specs.Prelude.{◌≡◌, ℕ, List, option_map, IfOk, IfSome};
-ghost use Rattle.leaf_capture.specs.Capture.{ChainsFit};
+ghost use Rattle.reconcile.specs.Capture.{ChainsFit};
 ghost use Rattle.reconcile.specs.Moving.{versions_in};
 ghost use Rattle.evict_step.specs.Backs.{AllFit};
 ghost use Rattle.hist_gather.specs.Sources.{held_by, moved_at, older_at};

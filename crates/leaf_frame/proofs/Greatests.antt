@@ -16,7 +16,7 @@ use Rattle.row_page.specs.Greatest.{greatest_in, names_of}
 use Rattle.stamp.specs.Order.{later}
 use Rattle.row_page.specs.Rows.{Row}
 use Rattle.leaf_rows.specs.Rows.{version_at}
-use Rattle.rows_shown.specs.Shows.{shown_at}
+use Rattle.reconcile.specs.Shows.{shown_at}
 use Rattle.update_chain.specs.declared.update.Update.{Update}
 use Rattle.leaf_chains.specs.declared.slot.KeyChain.{KeyChain}
 use Rattle.leaf_chains.specs.Names.{NoneAbove as NoneInChains}

@@ -1,7 +1,7 @@
 -- What a leaf holds of each key.
 use Rattle.std.proofs.Common.{◌≡◌, List, [], refl, ap}
 use Rattle.std.proofs.lemmas.List.{append-nil}
-use Rattle.rows_shown.specs.Shows.{shown_at}
+use Rattle.reconcile.specs.Shows.{shown_at}
 use Rattle.update_chain.specs.declared.update.Update.{Update}
 use Rattle.update_chain.specs.Updates.{Reply, Gives, IsRemoved, Conflicts, IsOlder, read_of}
 use Rattle.leaf_chains.specs.Slots.{chain_at}

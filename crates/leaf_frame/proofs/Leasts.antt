@@ -9,8 +9,8 @@ use Rattle.update_chain.specs.declared.update.Update.{Update}
 use Rattle.leaf_chains.specs.declared.slot.KeyChain.{KeyChain}
 use Rattle.leaf_chains.specs.Slots.{chain_at}
 use Rattle.leaf_chains.specs.Nearest.{IsWayUp}
-use Rattle.leaf_capture.specs.Gathered.{slots_at}
-use Rattle.leaf_capture.proofs.Gathering.{chain_member, climbs, way_chain}
+use Rattle.reconcile.specs.Gathered.{slots_at}
+use Rattle.reconcile.proofs.Gathering.{chain_member, climbs, way_chain}
 use Rattle.leaf_frame.specs.Updates.{AllSeen, HasUpdate, IsLeastUnseen, IsUnseen, least_in, least_of, lesser, unseen_id}
 
 -- ---- one after the other

@@ -5,7 +5,7 @@ use Rattle.kv_model.specs.Holds.{Member}
 use Rattle.kv_model.specs.Rows.{Way, is_past, comes_after}
 use Rattle.row_page.specs.declared.cell.Cell.{Cell}
 use Rattle.row_page.specs.Rows.{Row}
-use Rattle.rows_shown.specs.Shows.{shown_at}
+use Rattle.reconcile.specs.Shows.{shown_at}
 use Rattle.update_chain.proofs.Below.{member-append-left, member-append-right}
 use Rattle.leaf_chains.specs.declared.slot.KeyChain.{KeyChain}
 use Rattle.leaf_chains.specs.Slots.{chain_at}

@@ -13,8 +13,8 @@ use Rattle.row_page.specs.Rows.{Row, is_below, Ascends}
 use Rattle.row_page.specs.Views.{HasKeyAt, Splits, row_seen}
 use Rattle.row_page.proofs.Ascending.{above_at, all_above, below_differs, below_self, below_trans}
 use Rattle.leaf_rows.specs.Rows.{version_at}
-use Rattle.rows_shown.specs.Shows.{shown_at}
-use Rattle.rows_shown.proofs.Keyed.{key_self, none_above, same_key}
+use Rattle.reconcile.specs.Shows.{shown_at}
+use Rattle.reconcile.proofs.Keyed.{key_self, none_above, same_key}
 use Rattle.leaf_frame.specs.declared.page.RowAt.{RowAt}
 use Rattle.leaf_frame.specs.Near.{IsNearRow, IsPlaceAbove, IsPlaceBelow, NoRowPast}
 use Rattle.leaf_frame.specs.Walks.{IsRowAt}

@@ -8,7 +8,7 @@ use Rattle.stamp.specs.declared.Version.{Version}
 use Rattle.stamp.specs.declared.View.{View}
 use Rattle.kv_model.specs.Rows.{Way, is_past, comes_after}
 use Rattle.row_page.specs.declared.cell.Cell.{Cell}
-use Rattle.rows_shown.specs.Shows.{shown_at}
+use Rattle.reconcile.specs.Shows.{shown_at}
 use Rattle.update_chain.specs.declared.update.Update.{Update}
 use Rattle.leaf_frame.specs.declared.near.Near.{Near}
 use Rattle.leaf_frame.specs.Leaf.{HeldLeaf}

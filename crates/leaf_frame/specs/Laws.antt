@@ -2,7 +2,7 @@
 use Rattle.std.specs.Prelude.{◌≡◌, ◌≢◌, ℕ, List, [], drop, slice_get, Some, None}
 use Rattle.stamp.specs.declared.View.{View}
 use Rattle.row_page.specs.Rows.{Row}
-use Rattle.rows_shown.specs.Shows.{shown_at}
+use Rattle.reconcile.specs.Shows.{shown_at}
 use Rattle.update_chain.specs.declared.update.Update.{Update}
 use Rattle.update_chain.specs.FrameLaws.{durable_of}
 use Rattle.update_chain.specs.Updates.{installed, read_of}

@@ -1,7 +1,7 @@
 -- What a leaf in memory is seen as.
 use Rattle.std.specs.Prelude.{ℕ, List, [], Option, Some, None, drop}
 use Rattle.row_page.specs.Rows.{Row}
-use Rattle.rows_shown.specs.Shows.{shown_at}
+use Rattle.reconcile.specs.Shows.{shown_at}
 use Rattle.update_chain.specs.FrameLaws.{durable_of}
 use Rattle.update_chain.specs.Writing.{newest_of}
 use Rattle.leaf_chains.specs.declared.slot.KeyChain.{KeyChain}

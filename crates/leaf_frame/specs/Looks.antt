@@ -9,7 +9,7 @@ use Rattle.snapshot.specs.Sight.{is_seen, sight_of}
 use Rattle.row_page.specs.declared.cell.Cell.{Cell}
 use Rattle.row_page.specs.Changes.{version_in}
 use Rattle.row_page.specs.Views.{row_seen}
-use Rattle.rows_shown.specs.Shows.{shown_at}
+use Rattle.reconcile.specs.Shows.{shown_at}
 use Rattle.update_chain.specs.declared.look.Judgement.{Judgement}
 use Rattle.update_chain.specs.declared.update.Update.{Update}
 use Rattle.update_chain.specs.Updates.{Reply, Gives, IsRemoved, Conflicts, IsOlder, read_of, reply_of}

@@ -4,7 +4,7 @@ ghost use Rattle.std.specs.Prelude.{◌≡◌, ◌≤◌, ℕ, suc, [], Some, Is
 ghost use Rattle.row_page.specs.Views.{row_seen, HasKeyAt, Splits};
 ghost use Rattle.snapshot.specs.Sight.{IsSight, sight_of};
 ghost use Rattle.leaf_rows.specs.Rows.{AreFit};
-ghost use Rattle.rows_shown.specs.Shows.{shown_at};
+ghost use Rattle.reconcile.specs.Shows.{shown_at};
 ghost use Rattle.update_chain.specs.FrameLaws.{durable_of};
 ghost use Rattle.update_chain.specs.Writing.{judgement_to, newest_of};
 ghost use Rattle.reconcile.specs.Held.{page_rows};

@@ -96,9 +96,9 @@ fn is_stable(marks: &Marks, durable: u64) -> bool
     marks.stable == 0 || durable <= marks.stable
 }
 
-// An opening keeps the version: the recorded snapshot, in which these ids had not ended, sees its
-// name, and it is durable at the recorded stable stamp.
-fn is_seen(marks: &Marks, ids: &[u64], window: &Window) -> bool
+/// Whether an opening with these marks keeps the version: the recorded snapshot, in which these ids had
+/// not ended, sees its name, and it is durable at the recorded stable stamp. `O(ids)`.
+pub fn is_seen(marks: &Marks, ids: &[u64], window: &Window) -> bool
     ensures { result ≡ is_seen_window marks.now ids.now window.now }
 {
     sees(marks, ids, window.name) && is_stable(marks, window.durable)

@@ -12,6 +12,6 @@ mod laws;
 mod load;
 mod page;
 
-pub use kept::is_surely_seen;
+pub use kept::{is_seen, is_surely_seen};
 pub use laws::one_is_loaded;
 pub use load::load_leaf;

@@ -14,7 +14,7 @@ use Rattle.row_page.proofs.Ascending.{after_none}
 use Rattle.row_page.proofs.Greater.{greatest_push, most_push}
 use Rattle.row_page.proofs.Leaves.{length-cell}
 use Rattle.leaf_rows.specs.Rows.{AreFit, image_length}
-use Rattle.leaf_capture.proofs.Filling.{size_more}
+use Rattle.reconcile.proofs.Filling.{size_more}
 use Rattle.reconcile.specs.declared.image.Image.{Image}
 use Rattle.reconcile.specs.declared.images.Images.{Images}
 use Rattle.reconcile.specs.declared.open_image.OpenImage.{OpenImage}

@@ -6,7 +6,7 @@ use Rattle.std.proofs.lemmas.Option.{same_Some}
 use Rattle.row_page.specs.Rows.{Row}
 use Rattle.update_chain.specs.declared.update.Update.{Update}
 use Rattle.leaf_chains.specs.declared.slot.KeyChain.{KeyChain}
-use Rattle.leaf_capture.specs.Cells.{cell_version}
+use Rattle.reconcile.specs.Cells.{cell_version}
 use Rattle.reconcile.specs.Making.{updates_left}
 use Rattle.reconcile.specs.Merged.{chain_rows}
 

@@ -1,3 +1,13 @@
+pub mod Keyed
+pub mod Telling
+pub mod Picking
+pub mod Gathering
+pub mod Newest
+pub mod Fitting
+pub mod CaptureSifting
+pub mod CaptureCutting
+pub mod Filling
+pub mod Measuring
 pub mod Sifting
 pub mod Cutting
 pub mod Holding

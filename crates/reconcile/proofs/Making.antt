@@ -17,9 +17,9 @@ use Rattle.leaf_rows.proofs.Places.{front_fit}
 use Rattle.update_chain.specs.declared.update.Update.{Update}
 use Rattle.leaf_chains.specs.declared.slot.KeyChain.{KeyChain}
 use Rattle.leaf_chains.specs.Nearest.{IsWayUp}
-use Rattle.leaf_capture.specs.Capture.{ChainFits, ChainsFit}
-use Rattle.leaf_capture.specs.Gathered.{slots_at}
-use Rattle.leaf_capture.proofs.Gathering.{chain_member, climbs, way_chain}
+use Rattle.reconcile.specs.Capture.{ChainFits, ChainsFit}
+use Rattle.reconcile.specs.Gathered.{slots_at}
+use Rattle.reconcile.proofs.Gathering.{chain_member, climbs, way_chain}
 use Rattle.reconcile.specs.declared.image.Moved.{Moved}
 use Rattle.reconcile.specs.declared.live.Rule.{Rule}
 use Rattle.reconcile.specs.declared.made.Making.{Making}

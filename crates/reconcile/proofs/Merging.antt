@@ -17,14 +17,14 @@ use Rattle.kv_model.specs.Holds.{Member, Descends}
 use Rattle.row_page.specs.Changes.{version_in}
 use Rattle.row_page.specs.Rows.{Ascends, Row, is_below}
 use Rattle.row_page.proofs.Ascending.{above_differs, all_above, below_trans}
-use Rattle.rows_shown.specs.Shows.{shown_at}
+use Rattle.reconcile.specs.Shows.{shown_at}
 use Rattle.update_chain.specs.declared.update.Update.{Update}
 use Rattle.leaf_chains.specs.declared.slot.KeyChain.{KeyChain}
 use Rattle.leaf_chains.specs.Slots.{chain_at}
 use Rattle.leaf_chains.proofs.Changes.{same_key}
-use Rattle.leaf_capture.specs.Cells.{cell_version}
-use Rattle.leaf_capture.proofs.Gathering.{Climbs}
-use Rattle.leaf_capture.proofs.Picking.{version_back}
+use Rattle.reconcile.specs.Cells.{cell_version}
+use Rattle.reconcile.proofs.Gathering.{Climbs}
+use Rattle.reconcile.proofs.Picking.{version_back}
 use Rattle.reconcile.specs.Held.{held_at, versions}
 use Rattle.reconcile.specs.Merged.{among, chain_rows, merged}
 use Rattle.reconcile.proofs.Sifting.{head_of}

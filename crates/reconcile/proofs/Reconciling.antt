@@ -11,11 +11,11 @@ use Rattle.kv_model.specs.Holds.{Member}
 use Rattle.kv_model.specs.History.{down_to}
 use Rattle.row_page.specs.Rows.{Ascends, Row, RowFits, comes_after, is_below, key_most}
 use Rattle.leaf_rows.specs.Rows.{AreFit}
-use Rattle.rows_shown.specs.Shows.{shown_at}
+use Rattle.reconcile.specs.Shows.{shown_at}
 use Rattle.update_chain.specs.declared.update.Update.{Update}
 use Rattle.leaf_chains.specs.declared.slot.KeyChain.{KeyChain}
 use Rattle.leaf_chains.specs.Slots.{chain_at}
-use Rattle.leaf_capture.proofs.Gathering.{Climbs}
+use Rattle.reconcile.proofs.Gathering.{Climbs}
 use Rattle.reconcile.specs.declared.image.Moved.{Moved}
 use Rattle.reconcile.specs.declared.live.Live.{Live}
 use Rattle.reconcile.specs.Held.{IsReconciled, held_at, is_live, is_past, lives, moved_of, passes, versions}

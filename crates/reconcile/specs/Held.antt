@@ -9,7 +9,7 @@ use Rattle.stamp.specs.declared.Version.{Version}
 use Rattle.kv_model.specs.History.{down_to}
 use Rattle.row_page.specs.Rows.{Row}
 use Rattle.leaf_rows.specs.Rows.{AreFit}
-use Rattle.rows_shown.specs.Shows.{shown_at}
+use Rattle.reconcile.specs.Shows.{shown_at}
 use Rattle.snapshot.specs.Past.{is_below}
 use Rattle.snapshot.specs.Sight.{is_seen}
 use Rattle.update_chain.specs.declared.update.Update.{Update}

@@ -1,3 +1,11 @@
+pub mod Shows
+pub mod ShowsLaws
+pub mod Cells
+pub mod Capture
+pub mod Leaf
+pub mod Gathered
+pub mod CaptureLaws
+pub mod CutLaws
 pub mod Held
 pub mod Images
 pub mod Moving

@@ -10,7 +10,7 @@ use Rattle.row_page.specs.Changes.{version_in}
 use Rattle.row_page.specs.Rows.{Row}
 use Rattle.update_chain.specs.declared.update.Update.{Update}
 use Rattle.leaf_chains.specs.declared.slot.KeyChain.{KeyChain}
-use Rattle.leaf_capture.specs.Cells.{cell_version}
+use Rattle.reconcile.specs.Cells.{cell_version}
 use Rattle.reconcile.specs.declared.image.Moved.{Moved}
 use Rattle.reconcile.specs.declared.live.Live.{Live}
 use Rattle.reconcile.specs.Held.{lives, passes}

@@ -5,7 +5,7 @@ ghost use Rattle.std.specs.Option.{option_to_list};
 ghost use Rattle.row_page.specs.Changes.{change_seen};
 ghost use Rattle.row_page.specs.Rows.{Row};
 ghost use Rattle.row_page.specs.Views.{row_seen};
-ghost use Rattle.leaf_capture.specs.Cells.{cell_change, cell_version};
+ghost use Rattle.reconcile.specs.Cells.{cell_change, cell_version};
 ghost use Rattle.reconcile.specs.Held.{lives};
 ghost use Rattle.reconcile.specs.Making.{left, updates_left};
 ghost use Rattle.reconcile.specs.Merged.{chain_rows};

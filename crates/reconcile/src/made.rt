@@ -8,7 +8,7 @@ ghost use Rattle.row_page.specs.Views.{row_seen};
 ghost use Rattle.kv_model.specs.History.{down_to};
 ghost use Rattle.leaf_rows.specs.Rows.{AreFit};
 ghost use Rattle.leaf_chains.specs.declared.slot.KeyChain.{KeyChain};
-ghost use Rattle.leaf_capture.specs.Capture.{ChainFits, ChainsFit};
+ghost use Rattle.reconcile.specs.Capture.{ChainFits, ChainsFit};
 ghost use Rattle.reconcile.specs.Held.{IsReconciled, held_at, is_live, is_past, lives, moved_of, page_rows, passes};
 ghost use Rattle.reconcile.specs.Images.{AreImages};
 ghost use Rattle.reconcile.specs.Making.{HasMade, MadeTo, left};

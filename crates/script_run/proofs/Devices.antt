@@ -1,7 +1,6 @@
 -- What lines that are asked of the device reply and leave.
-use Rattle.std.specs.Prelude.{◌≡◌, ◌||◌, ℕ, Bool, true, false, IsTrue, MatchBool, List, [], ◌∷◌, length, map, Option, Some, None, Result, Ok, Err, IfErr, OnErr, OnOk, slice_index_or}
+use Rattle.std.specs.Prelude.{◌≡◌, ◌||◌, ℕ, Bool, true, false, MatchBool, List, [], ◌∷◌, length, map, Option, Some, None, Result, Ok, Err, IfErr, OnErr, OnOk, slice_index_or}
 use Rattle.std.proofs.Common.{inl, inr, refl, sym, ap, subst, ◌∙◌, arith}
-use Rattle.std.proofs.lemmas.Bool.{false≢true}
 use Rattle.disk_model.specs.declared.disk.Disk.{Ghosts}
 use Rattle.disk_model.specs.Crash.{SameDisk}
 use Rattle.wt_code.specs.declared.answers.Answer.TheVariants.{Done, Refused}
@@ -12,9 +11,8 @@ use Rattle.wt_code.specs.declared.refusals.Invalid.TheVariants.{InCall}
 use Rattle.kv_model.specs.Calls.{Call, rolled_back}
 use Rattle.kv_model.specs.Content.{Content, start}
 use Rattle.kv_model.specs.Decisions.{is_there}
-use Rattle.kv_model.specs.Machine.{Machine}
+use Rattle.kv_model.specs.Machine.{Completed}
 use Rattle.stored.specs.Stored.{Reads}
-use Rattle.script_text.specs.declared.line.Control.{Control}
 use Rattle.script_text.specs.declared.line.Control.TheVariants.{Checkpoint, Close, Crash, Frames}
 use Rattle.script_text.specs.declared.line.Line.TheVariants.{Control as OfAll}
 use Rattle.script_text.specs.declared.replies.Reply.{Reply}
@@ -24,36 +22,25 @@ use Rattle.row_page.specs.Rows.{Row}
 use Rattle.call_steps.specs.declared.stage.Target.{Target}
 use Rattle.engine.specs.declared.turning.Evicting.{Evicting}
 use Rattle.engine.specs.Turning.{evicting_by, found_in, found_on}
-use Rattle.engine_world.specs.Stands.{Engine}
-use Rattle.engine_world.specs.Systems.{first_world}
 use Rattle.engine_world.specs.Worlds.{World}
-use Rattle.ckpt_step.specs.Calm.{IsCalm, StartsCalm}
-use Rattle.ckpt_step.specs.Plain.{IsPlain}
 use Rattle.engine_store.specs.declared.frames.Frames.{Frames as StoreFrames}
 use Rattle.engine_store.specs.declared.frames.Frames.TheVariants.{Firm}
 use Rattle.engine_store.specs.declared.store.Store.{Store}
 use Rattle.engine_store.specs.Full.{count_of}
 use Rattle.engine_store.specs.Answers.{CheckpointTakes, CloseTakes, IsLeft, RefusesReopening, answer_of}
-use Rattle.engine_store.specs.Devices.{Device, IsLater, device_of}
+use Rattle.engine_store.specs.Devices.{Device, Installed, IsLater, device_of}
 use Rattle.engine_store.specs.Held as held
 use Rattle.engine_store.specs.Held.{IsHeld}
+use Rattle.engine_store.specs.Keeping.{begun_with}
 use Rattle.script_run.specs.declared.kept.Kept.{Kept}
 use Rattle.script_run.specs.declared.told.Told.{Told}
 use Rattle.script_run.specs.Runs.{IsAt, IsStopped, IsTold, RepliedAs}
-use Rattle.script_run.specs.Scripts.{BySystem, Checkpoints, Closes, ClosesBusy, NotReopened, Reopens, RunsLine, Script, gives_stamp, is_busy, nothing_kept, on_device, opened_world, plain}
+use Rattle.script_run.specs.Scripts.{BySystem, Checkpoints, Closes, ClosesBusy, NotReopened, Reopens, RunsLine, Script, is_busy, nothing_kept, on_device, opened_world, plain}
 
 -- ---- what goes on
 
 pub same_disk : {D : Type 0} (g : Ghosts D) (disk : D) → SameDisk g disk disk
 same_disk g disk = record { same = refl; room = refl; home = refl; later = omega arith }
-
--- a machine on which no commit has a stamp, with the calls that are under way
-calm_on : (w : World) (m : Machine) (shelf : ℕ → List Row) → IsCalm w → IsPlain m → IsCalm (record w { machine = m; shelf = shelf })
-calm_on w m shelf calm plain = record { plain = plain; doings = calm.doings; systems = calm.systems }
-
--- nothing is known of stamps
-pub at_any : {D : Type 0} (g : Ghosts D) (first : D) (stamped : Bool) (store : Store) (disk : D) (s : Script) → IsAt g first stamped store disk s → IsAt g first true store disk s
-at_any g first stamped store disk s at = record { held = at.held; device = at.device; frames = at.frames; calm = λ is. absurd (false≢true (sym is)) }
 
 -- a line of `sys`, by whether it has a call that is not finished
 by_busy : (s : Script) (reply : Reply) (later : Script) (Goes : Type 0) → is_busy s ≡ true → reply ≡ Answered (Refused (Invalid InCall)) → later ≡ s → BySystem s reply later Goes
@@ -73,10 +60,7 @@ found_one (Some x) target is = (x, refl, is)
 
 -- ---- a checkpoint, and a close
 
-module _ {D : Type 0} (g : Ghosts D) (first : D) (s : Script) (store store' : Store) (disk disk' : D) (result : Result (Unit {0}) Refusal) (at : IsAt g first false store disk s) (frames : store'.frames ≡ store.frames) where
-  calm : IsCalm s.world
-  calm = at.calm refl
-
+module _ {D : Type 0} (g : Ghosts D) (first : D) (s : Script) (store store' : Store) (disk disk' : D) (result : Result (Unit {0}) Refusal) (at : IsAt g first store disk s) (frames : store'.frames ≡ store.frames) where
   module _ (shelf : ℕ → List Row) (x : held.CheckpointsOn g first s.world s.first s.made store store' disk disk' shelf result) where
     abbrev checkpoint_later : Script
     checkpoint_later = on_device (record s { world = record s.world { shelf = shelf } }) x.next (device_of g disk') x.now
@@ -96,8 +80,8 @@ module _ {D : Type 0} (g : Ghosts D) (first : D) (s : Script) (store store' : St
       leaves = refl;
     }
 
-    checkpoint_at : IsAt g first false store' disk' checkpoint_later
-    checkpoint_at = record { held = x.held; device = refl; frames = frames ∙ at.frames; calm = λ is. calm_on s.world x.next shelf calm x.plain }
+    checkpoint_at : IsAt g first store' disk' checkpoint_later
+    checkpoint_at = record { held = x.held; device = refl; frames = frames ∙ at.frames }
 
   module _ (x : held.Shuts g first s.world s.first s.made store store' disk disk' result) where
     abbrev close_later : Script
@@ -115,26 +99,26 @@ module _ {D : Type 0} (g : Ghosts D) (first : D) (s : Script) (store store' : St
       leaves = refl;
     }
 
-    close_at : IsAt g first false store' disk' close_later
-    close_at = record { held = x.held; device = refl; frames = frames ∙ at.frames; calm = λ is. calm_on s.world x.next s.world.shelf calm x.plain }
+    close_at : IsAt g first store' disk' close_later
+    close_at = record { held = x.held; device = refl; frames = frames ∙ at.frames }
 
 module _ {D : Type 0} (g : Ghosts D) (first : D) (s : Script) (store : Store) (disk : D) (told : Told) where
-  pub checkpoint_busy : IsAt g first false store disk s → is_busy s ≡ true → told.reply ≡ Answered (Refused (Invalid InCall)) → told.formats ≡ plain
-      → IsTold g first false (OfAll Checkpoint) s store disk s.kept told
+  pub checkpoint_busy : IsAt g first store disk s → is_busy s ≡ true → told.reply ≡ Answered (Refused (Invalid InCall)) → told.formats ≡ plain
+      → IsTold g first (OfAll Checkpoint) s store disk s.kept told
   checkpoint_busy at busy reply formats = record { later = s; replies = (s, (formats, by_busy s told.reply s _ busy reply refl), refl); at = at; start = refl; kept_is = refl }
 
-  pub close_busy : (kept : Kept) → IsAt g first false store disk s → s.kept ≡ kept → is_busy s ≡ true → told.reply ≡ Answered (Refused (Invalid InCall)) → told.formats ≡ plain
-      → IsTold g first false (OfAll Close) s store disk kept told
+  pub close_busy : (kept : Kept) → IsAt g first store disk s → s.kept ≡ kept → is_busy s ≡ true → told.reply ≡ Answered (Refused (Invalid InCall)) → told.formats ≡ plain
+      → IsTold g first (OfAll Close) s store disk kept told
   close_busy kept at same busy reply formats = record { later = s; replies = (s, (formats, by_busy s told.reply s _ busy reply refl), refl); at = at; start = refl; kept_is = same }
 
-module _ {D : Type 0} (g : Ghosts D) (first : D) (s : Script) (store store' : Store) (disk disk' : D) (at : IsAt g first false store disk s) (idle : is_busy s ≡ false) (frames : store'.frames ≡ store.frames) (x : held.Shuts g first s.world s.first s.made store store' disk disk' (Ok tt)) where
+module _ {D : Type 0} (g : Ghosts D) (first : D) (s : Script) (store store' : Store) (disk disk' : D) (at : IsAt g first store disk s) (idle : is_busy s ≡ false) (frames : store'.frames ≡ store.frames) (x : held.Shuts g first s.world s.first s.made store store' disk disk' (Ok tt)) where
   abbrev between : Script
   between = close_later g first s store store' disk disk' (Ok tt) at frames x
 
   closes : Closes s Done between
   closes = close_is g first s store store' disk disk' (Ok tt) at frames x
 
-  close_then : (last : Store) (now : D) (kept : Kept) (result : Result Told Refusal) → RepliedAs g first false (OfAll Crash) between last now kept result → RepliedAs g first false (OfAll Close) s last now kept result
+  close_then : (last : Store) (now : D) (kept : Kept) (result : Result Told Refusal) → RepliedAs g first (OfAll Crash) between last now kept result → RepliedAs g first (OfAll Close) s last now kept result
   close_then last now kept (Ok told) r = record {
     later = r.later;
     replies = by r.replies;
@@ -147,9 +131,9 @@ module _ {D : Type 0} (g : Ghosts D) (first : D) (s : Script) (store store' : St
       by (middle, (formats, (reopens, reply)), same) = (middle, (formats, by_idle s told.reply middle _ idle (inr (inr (between, closes, reopens, reply)))), same)
   close_then last now kept (Err e) r = record { later = r.later; stops = (idle, (between, closes, r.stops)); at = r.at; start = r.start }
 
-module _ {D : Type 0} (g : Ghosts D) (first : D) (s : Script) (store : Store) (disk : D) (at : IsAt g first false store disk s) (idle : is_busy s ≡ false) (store' : Store) (disk' : D) (frames : store'.frames ≡ store.frames) where
+module _ {D : Type 0} (g : Ghosts D) (first : D) (s : Script) (store : Store) (disk : D) (at : IsAt g first store disk s) (idle : is_busy s ≡ false) (store' : Store) (disk' : D) (frames : store'.frames ≡ store.frames) where
   pub checkpoint_told : (result : Result (Unit {0}) Refusal) (told : Told) → held.Checkpoints g first s.world s.first s.made store store' disk disk' result → told.reply ≡ Answered (answer_of result) → told.formats ≡ plain
-      → IsTold g first false (OfAll Checkpoint) s store' disk' s.kept told
+      → IsTold g first (OfAll Checkpoint) s store' disk' s.kept told
   checkpoint_told result told x reply formats =
       let later = checkpoint_later g first s store store' disk disk' result at frames x.0 x.1 in
       record {
@@ -162,7 +146,7 @@ module _ {D : Type 0} (g : Ghosts D) (first : D) (s : Script) (store : Store) (d
 
   -- an eviction has found its leaf
   pub close_evicting : (frame : ℕ) (kept : Kept) (told : Told) → s.kept ≡ kept → store.engine.hub.fault ≡ None → (number : ℕ) × (target : Target) × (found_on (evicting_by kept.evicting number) ≡ Some target) × (target.frame ≡ frame)
-      → told.reply ≡ Answered (Refused (Busy (EvictingFrame frame))) → told.formats ≡ plain → IsTold g first false (OfAll Close) s store disk kept told
+      → told.reply ≡ Answered (Refused (Busy (EvictingFrame frame))) → told.formats ≡ plain → IsTold g first (OfAll Close) s store disk kept told
   close_evicting frame kept told same up (number, target, found, its) reply formats =
       let one = found_one (evicting_by s.kept.evicting number) target (ap (λ (k : Kept). found_on (evicting_by k.evicting number)) same ∙ found) in
       let busy : ClosesBusy s told.reply s = record {
@@ -179,7 +163,7 @@ module _ {D : Type 0} (g : Ghosts D) (first : D) (s : Script) (store : Store) (d
 
   -- a close that is refused
   pub close_refused : (r : Refusal) (kept : Kept) (told : Told) → held.Shuts g first s.world s.first s.made store store' disk disk' (Err r) → s.kept ≡ kept → told.reply ≡ Answered (Refused r) → told.formats ≡ plain
-      → IsTold g first false (OfAll Close) s store' disk' kept told
+      → IsTold g first (OfAll Close) s store' disk' kept told
   close_refused r kept told x same reply formats =
       let later = close_later g first s store store' disk disk' (Err r) at frames x in
       record {
@@ -192,8 +176,8 @@ module _ {D : Type 0} (g : Ghosts D) (first : D) (s : Script) (store : Store) (d
 
   -- one that is done, behind which the device is opened anew or not
   pub close_done : (x : held.Shuts g first s.world s.first s.made store store' disk disk' (Ok tt)) (last : Store) (now : D) (kept : Kept) (result : Result Told Refusal)
-      → (((stamped : Bool) (t : Script) → IsAt g first stamped store' disk' t → RepliedAs g first stamped (OfAll Crash) t last now kept result)) → RepliedAs g first false (OfAll Close) s last now kept result
-  close_done x last now kept result reopens = close_then g first s store store' disk disk' at idle frames x last now kept result (reopens false (close_later g first s store store' disk disk' (Ok tt) at frames x) (close_at g first s store store' disk disk' (Ok tt) at frames x))
+      → ((t : Script) → IsAt g first store' disk' t → RepliedAs g first (OfAll Crash) t last now kept result) → RepliedAs g first (OfAll Close) s last now kept result
+  close_done x last now kept result reopens = close_then g first s store store' disk disk' at idle frames x last now kept result (reopens (close_later g first s store store' disk disk' (Ok tt) at frames x) (close_at g first s store store' disk disk' (Ok tt) at frames x))
 
 -- ---- an opening anew
 
@@ -205,15 +189,16 @@ four (a ∷ b ∷ []) is = absurd (omega (arith, is))
 four (a ∷ b ∷ c ∷ []) is = absurd (omega (arith, is))
 four (a ∷ b ∷ c ∷ d ∷ e ∷ systems) is = absurd (omega (arith, is))
 
-opened_is : (content : Content) (shelf : ℕ → List Row) (e : Engine) → length e.systems ≡ 4 → first_world content shelf e ≡ opened_world (start content) shelf
-opened_is content shelf e is = let Systems : Type 0 = List (Option Call) in
-    ap (λ (l : Systems). let w : World = record { machine = start content; sessions = []; systems = l; shelf = shelf; records = λ id key. []; again = λ session. false } in w) (four e.systems is)
+-- What the world says of older versions does not matter: the store keeps them.
+opened_held : {D : Type 0} (g : Ghosts D) (first : D) (store : Store) (disk : D) (content : Content) (shelf : ℕ → List Row) (done : Completed) (made : List Installed) → length store.engine.systems ≡ 4 → IsHeld g first store disk (begun_with content shelf store) done made
+    → IsHeld g first store disk (opened_world (start content) shelf) done made
+opened_held g first store disk content shelf done made is held = let Systems : Type 0 = List (Option Call) in
+    subst (λ (l : Systems). let w : World = record { machine = start content; sessions = []; systems = l; shelf = shelf; records = λ id key. []; again = λ session. false } in IsHeld g first store disk w done made) (four store.engine.systems is) held
 
-module _ {D : Type 0} (g : Ghosts D) (first : D) (stamped : Bool) (s : Script) (store store' : Store) (disk disk' : D) (at : IsAt g first stamped store disk s) where
-  pub reopened : (law : StartsCalm) (told : Told) (kept : Kept) (count : ℕ) → store'.frames ≡ Firm count → length store'.engine.systems ≡ 4 → held.Reopens g first s.world s.first s.made store store' disk disk' → told.reply ≡ Answered Done → told.formats ≡ plain → kept ≡ nothing_kept
-      → IsTold g first stamped (OfAll (Frames count)) s store' disk' kept told
-  reopened law told kept count firm actors x reply formats new =
-      let same = opened_is x.content x.shelf store'.engine actors in
+module _ {D : Type 0} (g : Ghosts D) (first : D) (s : Script) (store store' : Store) (disk disk' : D) (at : IsAt g first store disk s) where
+  pub reopened : (told : Told) (kept : Kept) (count : ℕ) → store'.frames ≡ Firm count → length store'.engine.systems ≡ 4 → held.Reopens g first s.world s.first s.made store store' disk disk' → told.reply ≡ Answered Done → told.formats ≡ plain → kept ≡ nothing_kept
+      → IsTold g first (OfAll (Frames count)) s store' disk' kept told
+  reopened told kept count firm actors x reply formats new =
       let later : Script = record s { world = opened_world (start x.content) x.shelf; device = device_of g disk'; kept = nothing_kept; frames = count } in
       let reopens : Reopens count s later = record {
         content = x.content;
@@ -230,10 +215,9 @@ module _ {D : Type 0} (g : Ghosts D) (first : D) (stamped : Bool) (s : Script) (
         later = later;
         replies = (later, (formats, (reopens, reply)), refl);
         at = record {
-          held = subst (λ (w : World). IsHeld g first store' disk' w s.first s.made) same x.held;
+          held = opened_held g first store' disk' x.content x.shelf s.first s.made actors x.held;
           device = refl;
           frames = firm;
-          calm = λ none. subst (λ (w : World). IsCalm w) same (law x.content x.shelf store'.engine x.plain);
         };
         start = refl;
         kept_is = sym new;
@@ -250,7 +234,7 @@ module _ {D : Type 0} (g : Ghosts D) (first : D) (stamped : Bool) (s : Script) (
         why = subst (λ (d : Device). RefusesReopening d (device_of g disk') r) (sym at.device) x.why;
         leaves = refl;
       } in
-      record { later = later; stops = stops; at = record { held = x.held; device = refl; frames = frames ∙ at.frames; calm = λ is. absurd (false≢true (sym is)) }; start = refl }
+      record { later = later; stops = stops; at = record { held = x.held; device = refl; frames = frames ∙ at.frames }; start = refl }
 
 -- ---- the lines together
 
@@ -259,41 +243,13 @@ pub refused_as : {A : Type 0} (result : Result A Refusal) (P Q : Refusal → Typ
 refused_as (Ok a) P Q each is = is
 refused_as (Err r) P Q each is = each r is
 
-or_none : (b : Bool) → b || false ≡ false → b ≡ false
-or_none true is = is
-or_none false is = refl
-
--- a line of the device gives no stamp
-pub gives_none : {D : Type 0} (g : Ghosts D) (first : D) (stamped : Bool) (asked : Control) (s : Script) (store : Store) (disk : D) (kept : Kept) (result : Result Told Refusal)
-    → RepliedAs g first stamped (OfAll asked) s store disk kept result → RepliedAs g first (stamped || gives_stamp (OfAll asked)) (OfAll asked) s store disk kept result
-gives_none g first stamped asked s store disk kept (Ok told) r = record {
-  later = r.later;
-  replies = r.replies;
-  at = record { held = r.at.held; device = r.at.device; frames = r.at.frames; calm = λ none. r.at.calm (or_none stamped none) };
-  start = r.start;
-  kept_is = r.kept_is;
-}
-gives_none g first stamped asked s store disk kept (Err e) r = r
-
--- a checkpoint and a close come while no line gave a stamp
-module _ {D : Type 0} (g : Ghosts D) (first : D) (s : Script) (store : Store) (disk : D) where
-  pub checkpoint_plain : (stamped : Bool) → (IsTrue stamped → ⊥) → IsAt g first stamped store disk s → (store' : Store) (disk' : D) (kept : Kept) (told : Told) → s.kept ≡ kept
-      → (IsAt g first false store disk s → IsTold g first false (OfAll Checkpoint) s store' disk' s.kept told) → IsTold g first stamped (OfAll Checkpoint) s store' disk' kept told
-  checkpoint_plain false other at store' disk' kept told same replied = subst (λ (l : Kept). IsTold g first false (OfAll Checkpoint) s store' disk' l told) same (replied at)
-  checkpoint_plain true other at store' disk' kept told same replied = absurd (other refl)
-
-  pub close_plain : (stamped : Bool) → (IsTrue stamped → ⊥) → IsAt g first stamped store disk s → (store' : Store) (disk' : D) (kept : Kept) (result : Result Told Refusal)
-      → (IsAt g first false store disk s → RepliedAs g first false (OfAll Close) s store' disk' kept result) → RepliedAs g first stamped (OfAll Close) s store' disk' kept result
-  close_plain false other at store' disk' kept result replied = replied at
-  close_plain true other at store' disk' kept result replied = absurd (other refl)
-
 -- an opening with as many frames as there were is told as one after a crash
-pub crash_told : {D : Type 0} (g : Ghosts D) (first : D) (stamped : Bool) (s : Script) (store : Store) (disk : D) (kept : Kept) (count : ℕ) (result : Result Told Refusal) → count ≡ s.frames → RepliedAs g first stamped (OfAll (Frames count)) s store disk kept result → RepliedAs g first stamped (OfAll Crash) s store disk kept result
-crash_told g first stamped s store disk kept count (Ok told) same x = record { later = x.later; replies = by x.replies; at = x.at; start = x.start; kept_is = x.kept_is }
+pub crash_told : {D : Type 0} (g : Ghosts D) (first : D) (s : Script) (store : Store) (disk : D) (kept : Kept) (count : ℕ) (result : Result Told Refusal) → count ≡ s.frames → RepliedAs g first (OfAll (Frames count)) s store disk kept result → RepliedAs g first (OfAll Crash) s store disk kept result
+crash_told g first s store disk kept count (Ok told) same x = record { later = x.later; replies = by x.replies; at = x.at; start = x.start; kept_is = x.kept_is }
   where
     by : RunsLine (OfAll (Frames count)) s told.formats told.reply x.later → RunsLine (OfAll Crash) s told.formats told.reply x.later
     by (middle, (formats, (reopens, reply)), behind) = (middle, (formats, (subst (λ (n : ℕ). Reopens n s middle) same reopens, reply)), behind)
-crash_told g first stamped s store disk kept count (Err r) same x = record { later = x.later; stops = x.stops; at = x.at; start = x.start }
+crash_told g first s store disk kept count (Err r) same x = record { later = x.later; stops = x.stops; at = x.at; start = x.start }
 
 -- how many there are of a store
 pub count_at : (f : StoreFrames) (count : ℕ) → f ≡ Firm count → count_of f ≡ count

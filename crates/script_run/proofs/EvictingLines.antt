@@ -1,5 +1,5 @@
 -- What a line that evicts the leaf of a key replies and leaves.
-use Rattle.std.specs.Prelude.{◌≡◌, ◌⊎◌, ◌||◌, ℕ, zero, suc, Bool, true, false, IsTrue, List, Option, None, Some, Result, Ok, Err, slice_index_or, slice_set}
+use Rattle.std.specs.Prelude.{◌≡◌, ◌⊎◌, ℕ, zero, suc, true, false, IsTrue, List, Option, None, Some, Result, Ok, Err, slice_index_or, slice_set}
 use Rattle.std.proofs.Common.{inl, inr, refl, sym, ap, subst, ◌∙◌, arith}
 use Rattle.failure.specs.Counts.{Rose}
 use Rattle.disk_model.specs.declared.disk.Disk.{Ghosts}
@@ -9,7 +9,7 @@ use Rattle.wt_code.specs.declared.answers.Answer.TheVariants.{Done, Refused}
 use Rattle.wt_code.specs.declared.refusals.Refusal.{Refusal}
 use Rattle.wt_code.specs.declared.refusals.Refusal.TheVariants.{DiskFault, Invalid, NoMemory}
 use Rattle.wt_code.specs.declared.refusals.Invalid.TheVariants.{InCall}
-use Rattle.kv_model.specs.Calls.{Around, Call as Asked, Evict, SystemAnswers}
+use Rattle.kv_model.specs.Calls.{Call as Asked, Evict}
 use Rattle.kv_model.specs.Decisions.{is_there}
 use Rattle.kv_model.specs.Machine.{Machine}
 use Rattle.wt_calls.specs.declared.call.Call.{Call}
@@ -21,7 +21,6 @@ use Rattle.script_text.specs.declared.line.Line.TheVariants.{Whole, Start, Step,
 use Rattle.script_text.specs.declared.replies.Reply.{Reply}
 use Rattle.script_text.specs.declared.replies.Reply.TheVariants.{Answered, More, Started}
 use Rattle.script_text.specs.Stored.{stored_call}
-use Rattle.ckpt_step.specs.Plain.{IsPlain}
 use Rattle.engine_world.specs.Stands.{Engine, Stands}
 use Rattle.engine_world.specs.Worlds.{World}
 use Rattle.engine.specs.declared.step.Actor.{Actor}
@@ -39,14 +38,12 @@ use Rattle.engine_store.specs.EvictCalls.{EvictAnswers}
 use Rattle.engine_store.specs.EvictSteps.{EndsAs, EndsWith, EvictsBeside, GoesTo, LeadsTo, MayTurn, around_beside}
 use Rattle.engine_store.specs.Keeping.{with_kept}
 use Rattle.engine_store.proofs.EvictTurns.{staged_by}
-use Rattle.engine_store.proofs.WritingOut.{plain_down}
 use Rattle.script_run.specs.declared.kept.Kept.{Kept}
 use Rattle.script_run.specs.declared.told.Told.{Told}
 use Rattle.script_run.specs.Faults.{RepliesFault, TellsFaults}
 use Rattle.script_run.specs.Runs.{IsAt, IsCallLine, IsTold}
-use Rattle.script_run.specs.Scripts.{ActorReplies, Answers, Begins, EvictionEnds, EvictionRests, EvictionTurns, GoneBehind, IsLaterCall, IsUnbuilt, Opens, Refuses, RefusesInCall, Replies, RepliesBy, Script, Seen, StartsEvicting, actor_in, actor_of, call_stamps, caller, eviction_of, formats_in, gives_stamp, number_of, system_in, with_evicting}
-use Rattle.script_run.proofs.GoneBehind.{calm_as, gone, now}
-use Rattle.script_run.proofs.Holding.{or_first}
+use Rattle.script_run.specs.Scripts.{ActorReplies, Answers, Begins, EvictionEnds, EvictionRests, EvictionTurns, GoneBehind, IsLaterCall, IsUnbuilt, Opens, Refuses, RefusesInCall, Replies, RepliesBy, Script, Seen, StartsEvicting, actor_in, actor_of, caller, eviction_of, formats_in, number_of, system_in, with_evicting}
+use Rattle.script_run.proofs.GoneBehind.{gone, now}
 use Rattle.script_run.proofs.Telling.{same_told, stays_faults}
 
 -- ---- which call it is
@@ -70,14 +67,6 @@ the_eviction (System number system.StepCheckpoint) later here = absurd (here (λ
 the_eviction (System number system.FinishCheckpoint) later here = absurd (here (λ none. none))
 the_eviction (System number system.Close) later here = absurd (here (λ none. none))
 
--- it commits nothing
-pub stamps_none : (made : Call) (stamped : Bool) → IsEviction made → stamped ≡ (stamped || call_stamps made)
-stamps_none made stamped e = or_none stamped ∙ ap (λ (c : Call). stamped || call_stamps c) (sym e.is)
-  where
-    or_none : (b : Bool) → b ≡ (b || false)
-    or_none true = refl
-    or_none false = refl
-
 -- ---- what it leaves
 
 -- nothing goes behind it
@@ -94,18 +83,6 @@ same_behind s = inl (record {
   };
   keeps = record { capacity = refl; checkpoint = λ o has. has };
 })
-
--- a commit has no stamp where none had one
-module _ (a : Around) (m : Machine) (name key : List ℕ) (answer : Answer (List ℕ)) (next : Machine) (plain : IsPlain m) where
-  by_system : SystemAnswers a m (Evict name key) answer next → IsPlain next
-  by_system (inl short) = subst IsPlain (sym short.1) plain
-  by_system (inr (inl (r, keeps, is, inl same))) = subst IsPlain (sym same) plain
-  by_system (inr (inl (r, keeps, is, inr (fault, (f, down))))) = subst IsPlain (sym down) (plain_down m f plain)
-  by_system (inr (inr is)) = subst IsPlain (sym is.3) plain
-
-  plain_then : (started : Option Asked) → EvictAnswers started a m name key answer next → IsPlain next
-  plain_then None is = by_system is
-  plain_then (Some other) is = subst IsPlain (sym is.1) plain
 
 -- ---- whose line it is
 
@@ -150,7 +127,7 @@ module _ (s : Script) (formats : Formats) (reply : Reply) (later : Script) where
 
 -- ---- a whole call
 
-module _ {D : Type 0} (g : Ghosts D) (first : D) (stamped : Bool) (s : Script) (store store' : Store) (disk disk' : D) (at : IsAt g first stamped store disk s) (told : Told) where
+module _ {D : Type 0} (g : Ghosts D) (first : D) (s : Script) (store store' : Store) (disk disk' : D) (at : IsAt g first store disk s) (told : Told) where
   abbrev pub seen_at : Seen s
   seen_at = record { engine = store.engine; records = (with_kept store.ground.kept s.world).records; stands = at.held.stands }
 
@@ -159,7 +136,7 @@ module _ {D : Type 0} (g : Ghosts D) (first : D) (stamped : Bool) (s : Script) (
     abbrev later : Script
     later = now g first s store store' disk disk' at.device x.next x.room
 
-    pub evict_told : IsTold g first stamped (Whole made) s store' disk' s.kept told
+    pub evict_told : IsTold g first (Whole made) s store' disk' s.kept told
     evict_told = record {
       later = later;
       replies = (
@@ -187,23 +164,20 @@ module _ {D : Type 0} (g : Ghosts D) (first : D) (stamped : Bool) (s : Script) (
         held = x.room.held;
         device = refl;
         frames = frames ∙ at.frames;
-        calm = λ none. calm_as s.world x.next x.room.shelf x.room.again (at.calm none)
-            (plain_then (around_beside s.kept.evicting number None store.engine store.ground.lives (device_of g disk) (device_of g disk') s.world.machine table key) s.world.machine table key answer x.next
-            (at.calm none).plain (slice_index_or s.world.systems number None) x.answers);
       };
       start = refl;
       kept_is = refl;
     }
 
 -- for want of memory nothing was made of it
-module _ {D : Type 0} (g : Ghosts D) (first : D) (stamped : Bool) (s : Script) (store : Store) (disk : D) (at : IsAt g first stamped store disk s) (told : Told) where
-  pub evict_short : (made : Call) → IsEviction made → eviction_of (caller made) s.kept.evicting ≡ None → told.reply ≡ Answered (Refused NoMemory) → IsTold g first stamped (Whole made) s store disk s.kept told
+module _ {D : Type 0} (g : Ghosts D) (first : D) (s : Script) (store : Store) (disk : D) (at : IsAt g first store disk s) (told : Told) where
+  pub evict_short : (made : Call) → IsEviction made → eviction_of (caller made) s.kept.evicting ≡ None → told.reply ≡ Answered (Refused NoMemory) → IsTold g first (Whole made) s store disk s.kept told
   evict_short made e none is = record { later = s; replies = (s, whole_replies s told.formats told.reply s made none (inl (short made e)), same_behind s); at = at; start = refl; kept_is = refl }
     where
       short : (made : Call) → IsEviction made → Opens (caller made) s.world (λ w. Answers made s told.formats told.reply s w ⊎ Refuses NoMemory s w told.reply s) (λ r w. Refuses r s w told.reply s)
       short made e = subst (λ (c : Call). Opens (caller c) s.world (λ w. Answers c s told.formats told.reply s w ⊎ Refuses NoMemory s w told.reply s) (λ r w. Refuses r s w told.reply s)) (sym e.is) (inl (inr (is, refl)))
 
-  pub start_short : (made : Call) → IsEviction made → eviction_of (caller made) s.kept.evicting ≡ None → told.reply ≡ Answered (Refused NoMemory) → IsTold g first stamped (Start made) s store disk s.kept told
+  pub start_short : (made : Call) → IsEviction made → eviction_of (caller made) s.kept.evicting ≡ None → told.reply ≡ Answered (Refused NoMemory) → IsTold g first (Start made) s store disk s.kept told
   start_short made e none is = record { later = s; replies = (s, start_replies s told.formats told.reply s made none (inl (short made e)), same_behind s); at = at; start = refl; kept_is = refl }
     where
       short : (made : Call) → IsEviction made → Opens (caller made) s.world (λ w. Begins made s told.formats told.reply s w ⊎ Refuses NoMemory s w told.reply s) (λ r w. Refuses r s w told.reply s)
@@ -213,23 +187,20 @@ module _ {D : Type 0} (g : Ghosts D) (first : D) (stamped : Bool) (s : Script) (
 
   -- it begins, or its actor has another call
   pub start_told : (made : Call) (number : ℕ) (table key : List ℕ) (later : Script) (kept : Kept) → told.formats ≡ formats_in s.world.machine made → stored_call told.formats made ≡ System number (system.Evict table key) → eviction_of (caller made) s.kept.evicting ≡ None
-      → StartsEvicting (slice_index_or s.world.systems number None) s number table key told.reply later → later ≡ with_evicting s later.kept.evicting → later.kept ≡ kept → IsTold g first stamped (Start made) s store disk kept told
+      → StartsEvicting (slice_index_or s.world.systems number None) s number table key told.reply later → later ≡ with_evicting s later.kept.evicting → later.kept ≡ kept → IsTold g first (Start made) s store disk kept told
   start_told made number table key later kept formats_are stored none starts is kept_is = record {
     later = later;
     replies = (later, start_replies s told.formats told.reply later made none (inr (record { number = number; table = table; key = key; formats_are = formats_are; is = stored; starts = starts })), same_behind later);
-    at = subst (λ (t : Script). IsAt g first stamped store disk t) (sym is) (record { held = at.held; device = at.device; frames = at.frames; calm = at.calm });
+    at = subst (λ (t : Script). IsAt g first store disk t) (sym is) (record { held = at.held; device = at.device; frames = at.frames });
     start = ap (λ (t : Script). t.first) is;
     kept_is = kept_is;
   }
 
   -- a call of an actor that has an eviction
   module _ (number : ℕ) (x : Evicting) (there : evicting_by s.kept.evicting number ≡ Some x) (is : told.reply ≡ Answered (Refused (Invalid InCall))) where
-    at_line : (asked : Line) → IsAt g first (stamped || gives_stamp asked) store disk s
-    at_line asked = record { held = at.held; device = at.device; frames = at.frames; calm = λ none. at.calm (or_first stamped (gives_stamp asked) none) }
-
-    pub busy_told : (asked : Line) → IsCallLine asked → actor_of asked ≡ by.System number → ((who : LineActor) → asked ≡ Step who → ⊥) → ((who : LineActor) → asked ≡ Finish who → ⊥) → IsTold g first (stamped || gives_stamp asked) asked s store disk s.kept told
-    busy_told (Whole made) now its step finish = record { later = s; replies = (s, busy_whole s told.formats told.reply s number x there made its (is, refl), same_behind s); at = at_line (Whole made); start = refl; kept_is = refl }
-    busy_told (Start made) now its step finish = record { later = s; replies = (s, busy_start s told.formats told.reply s number x there made its (is, refl), same_behind s); at = at_line (Start made); start = refl; kept_is = refl }
+    pub busy_told : (asked : Line) → IsCallLine asked → actor_of asked ≡ by.System number → ((who : LineActor) → asked ≡ Step who → ⊥) → ((who : LineActor) → asked ≡ Finish who → ⊥) → IsTold g first asked s store disk s.kept told
+    busy_told (Whole made) now its step finish = record { later = s; replies = (s, busy_whole s told.formats told.reply s number x there made its (is, refl), same_behind s); at = at; start = refl; kept_is = refl }
+    busy_told (Start made) now its step finish = record { later = s; replies = (s, busy_start s told.formats told.reply s number x there made its (is, refl), same_behind s); at = at; start = refl; kept_is = refl }
     busy_told (Step who) now its step finish = absurd (step who refl)
     busy_told (Finish who) now its step finish = absurd (finish who refl)
     busy_told (Control asked) now its step finish = absurd now
@@ -244,22 +215,22 @@ pub start_free : (o : Option Asked) (s later : Script) (number : ℕ) (table key
 start_free None s later number table key reply is told leaves = (told, leaves)
 start_free (Some other) s later number table key reply is told leaves = absurd cc
 
-module _ {D : Type 0} (g : Ghosts D) (first : D) (stamped : Bool) (s : Script) (store store' : Store) (disk disk' : D) (at : IsAt g first stamped store disk s) (told : Told) (frames : store'.frames ≡ store.frames) (number : ℕ) where
+module _ {D : Type 0} (g : Ghosts D) (first : D) (s : Script) (store store' : Store) (disk disk' : D) (at : IsAt g first store disk s) (told : Told) (frames : store'.frames ≡ store.frames) (number : ℕ) where
   -- a step behind which it goes on
   pub goes_told : (x : Evicting) → evicting_by s.kept.evicting number ≡ Some x → (who : LineActor) → actor_in who ≡ by.System number → (next : EvictStage) → store' ≡ store → disk' ≡ disk
-      → ((w : World) → Stands store.engine w → GoesTo store.engine w.machine s.kept.evicting number x.table x.key x.stage next) → told.reply ≡ More → IsTold g first stamped (Step who) s store' disk' (record s.kept { evicting = staged s.kept.evicting number next }) told
+      → ((w : World) → Stands store.engine w → GoesTo store.engine w.machine s.kept.evicting number x.table x.key x.stage next) → told.reply ≡ More → IsTold g first (Step who) s store' disk' (record s.kept { evicting = staged s.kept.evicting number next }) told
   goes_told x there who is next same here goes reply =
       let later = with_evicting s (staged s.kept.evicting number next) in
-      let at_later : IsAt g first stamped store disk later = record { held = at.held; device = at.device; frames = at.frames; calm = at.calm } in
+      let at_later : IsAt g first store disk later = record { held = at.held; device = at.device; frames = at.frames } in
       record {
         later = later;
         replies = (
           later,
           turn_replies s told.formats told.reply later number x there who is
-              (seen_at g first stamped s store store' disk disk' at told, inl (record { next = next; goes = goes (with_kept store.ground.kept s.world) at.held.stands; told = reply; leaves = refl })),
+              (seen_at g first s store store' disk disk' at told, inl (record { next = next; goes = goes (with_kept store.ground.kept s.world) at.held.stands; told = reply; leaves = refl })),
           same_behind later,
         );
-        at = subst (λ (d : D). IsAt g first stamped store' d later) (sym here) (subst (λ (t : Store). IsAt g first stamped t disk later) (sym same) at_later);
+        at = subst (λ (d : D). IsAt g first store' d later) (sym here) (subst (λ (t : Store). IsAt g first t disk later) (sym same) at_later);
         start = refl;
         kept_is = refl;
       }
@@ -289,25 +260,22 @@ module _ {D : Type 0} (g : Ghosts D) (first : D) (stamped : Bool) (s : Script) (
       gone = gone g first ended store store' disk disk' at.device y.next y.room;
     }
 
-    ends_at : IsAt g first stamped store' disk' last
+    ends_at : IsAt g first store' disk' last
     ends_at = record {
       held = y.room.held;
       device = refl;
       frames = frames ∙ at.frames;
-      calm = λ none. calm_as s.world y.next y.room.shelf y.room.again (at.calm none)
-          (plain_then (around_beside evicting number (Some x.stage) store.engine store.ground.lives (device_of g disk) (device_of g disk') s.world.machine x.table x.key) s.world.machine x.table x.key answer y.next
-          (at.calm none).plain (slice_index_or s.world.systems number None) y.answers);
     }
 
     -- behind others
     pub rest_told : (who : LineActor) → actor_in who ≡ by.System number → (before : Evicting) → evicting_by s.kept.evicting number ≡ Some before → evicting_by evicting number ≡ Some x → (n : ℕ) → LeadsTo n store.engine s.world.machine number s.kept.evicting evicting
-        → IsTold g first stamped (Finish who) s store' disk' (record s.kept { evicting = slice_set evicting number None }) told
+        → IsTold g first (Finish who) s store' disk' (record s.kept { evicting = slice_set evicting number None }) told
     rest_told who is before had there n leads = record {
       later = last;
       replies = (
         last,
         rest_replies s told.formats told.reply last number before had who is
-            (record { seen = seen_at g first stamped s store store' disk disk' at told; count = n; evicting = evicting; leads = leads; last = x; there = there; ends = ends_is }),
+            (record { seen = seen_at g first s store store' disk disk' at told; count = n; evicting = evicting; leads = leads; last = x; there = there; ends = ends_is }),
         same_behind last,
       );
       at = ends_at;
@@ -317,12 +285,12 @@ module _ {D : Type 0} (g : Ghosts D) (first : D) (stamped : Bool) (s : Script) (
 
   -- alone
   pub ends_told : (x : Evicting) → evicting_by s.kept.evicting number ≡ Some x → (who : LineActor) → actor_in who ≡ by.System number → (answer : Answer (List ℕ)) → told.reply ≡ Answered answer
-      → EvictsBeside g first s.world s.first s.made store store' disk disk' s.kept.evicting number x.table x.key (Some x.stage) answer → IsTold g first stamped (Step who) s store' disk' (record s.kept { evicting = slice_set s.kept.evicting number None }) told
+      → EvictsBeside g first s.world s.first s.made store store' disk disk' s.kept.evicting number x.table x.key (Some x.stage) answer → IsTold g first (Step who) s store' disk' (record s.kept { evicting = slice_set s.kept.evicting number None }) told
   ends_told x there who is answer reply y = record {
     later = last s.kept.evicting x answer reply y;
     replies = (
       last s.kept.evicting x answer reply y,
-      turn_replies s told.formats told.reply (last s.kept.evicting x answer reply y) number x there who is (seen_at g first stamped s store store' disk disk' at told, inr (ends_is s.kept.evicting x answer reply y)),
+      turn_replies s told.formats told.reply (last s.kept.evicting x answer reply y) number x there who is (seen_at g first s store store' disk disk' at told, inr (ends_is s.kept.evicting x answer reply y)),
       same_behind (last s.kept.evicting x answer reply y),
     );
     at = ends_at s.kept.evicting x answer reply y;
@@ -333,12 +301,12 @@ module _ {D : Type 0} (g : Ghosts D) (first : D) (stamped : Bool) (s : Script) (
   -- ---- by what the store did
 
   pub turn_told : (next : EvictStage) (o : Option Evicting) → evicting_by s.kept.evicting number ≡ o → is_there o ≡ true → (who : LineActor) → actor_in who ≡ by.System number → MayTurn g store store' disk disk' s.kept.evicting number o (On next) → told.reply ≡ More
-      → IsTold g first stamped (Step who) s store' disk' (record s.kept { evicting = staged s.kept.evicting number next }) told
+      → IsTold g first (Step who) s store' disk' (record s.kept { evicting = staged s.kept.evicting number next }) told
   turn_told next None there has who is turns reply = absurd cc
   turn_told next (Some x) there has who is turns reply = goes_told x there who is next turns.0.0 turns.0.1 turns.1 reply
 
   pub end_told : IsTrue (g.honest disk) → (result : Result (Unit {0}) Refusal) (o : Option Evicting) → evicting_by s.kept.evicting number ≡ o → is_there o ≡ true → (who : LineActor) → actor_in who ≡ by.System number → MayTurn g store store' disk disk' s.kept.evicting number o (Ended result)
-      → told.reply ≡ Answered (answer_of result) → IsTold g first stamped (Step who) s store' disk' (record s.kept { evicting = slice_set s.kept.evicting number None }) told
+      → told.reply ≡ Answered (answer_of result) → IsTold g first (Step who) s store' disk' (record s.kept { evicting = slice_set s.kept.evicting number None }) told
   end_told honest result None there has who is turns reply = absurd cc
   end_told honest result (Some x) there has who is turns reply = ends_told x there who is (answer_of result) reply (turns honest first s.world s.first s.made at.held)
 
@@ -348,7 +316,7 @@ module _ {D : Type 0} (g : Ghosts D) (first : D) (stamped : Bool) (s : Script) (
   still_there (suc n) e m a b (y, next, here, goes, leads) x there = still_there n e m (staged a number next) b leads (record y { stage = next }) (staged_by a number y next here)
 
   pub finish_told : IsTrue (g.honest disk) → (result : Result (Unit {0}) Refusal) (evicting : List (Option Evicting)) (x : Evicting) → evicting_by s.kept.evicting number ≡ Some x → (who : LineActor) → actor_in who ≡ by.System number → EndsAs g store store' disk disk' s.kept.evicting evicting number result
-      → told.reply ≡ Answered (answer_of result) → IsTold g first stamped (Finish who) s store' disk' (record s.kept { evicting = slice_set evicting number None }) told
+      → told.reply ≡ Answered (answer_of result) → IsTold g first (Finish who) s store' disk' (record s.kept { evicting = slice_set evicting number None }) told
   finish_told honest result evicting x there who is (leads, turns) reply =
       let l = leads (with_kept store.ground.kept s.world) at.held.stands in
       let y = still_there l.0 store.engine s.world.machine s.kept.evicting evicting l.1 x there in
@@ -356,29 +324,25 @@ module _ {D : Type 0} (g : Ghosts D) (first : D) (stamped : Bool) (s : Script) (
 
 -- ---- by the line
 
-module _ {D : Type 0} (g : Ghosts D) (first : D) (stamped : Bool) (s : Script) (store : Store) (disk : D) (kept : Kept) (told : Told) where
-  or_none : (b : Bool) → b ≡ (b || false)
-  or_none true = refl
-  or_none false = refl
-
-  pub step_line : (line : Line) (who : LineActor) (number : ℕ) → line ≡ Step who → system_in (actor_of line) ≡ Some number → (actor_in who ≡ by.System number → IsTold g first stamped (Step who) s store disk kept told)
-      → IsTold g first (stamped || gives_stamp line) line s store disk kept told
+module _ {D : Type 0} (g : Ghosts D) (first : D) (s : Script) (store : Store) (disk : D) (kept : Kept) (told : Told) where
+  pub step_line : (line : Line) (who : LineActor) (number : ℕ) → line ≡ Step who → system_in (actor_of line) ≡ Some number → (actor_in who ≡ by.System number → IsTold g first (Step who) s store disk kept told)
+      → IsTold g first line s store disk kept told
   step_line line who number is its told_so =
-      subst (λ (l : Line). IsTold g first (stamped || gives_stamp l) l s store disk kept told) (sym is)
-      (subst (λ (b : Bool). IsTold g first b (Step who) s store disk kept told) (or_none stamped) (told_so (system_is (actor_in who) number (subst (λ (l : Line). system_in (actor_of l) ≡ Some number) is its))))
+      subst (λ (l : Line). IsTold g first l s store disk kept told) (sym is)
+      (told_so (system_is (actor_in who) number (subst (λ (l : Line). system_in (actor_of l) ≡ Some number) is its)))
 
-  pub finish_line : (line : Line) (who : LineActor) (number : ℕ) → line ≡ Finish who → system_in (actor_of line) ≡ Some number → (actor_in who ≡ by.System number → IsTold g first stamped (Finish who) s store disk kept told)
-      → IsTold g first (stamped || gives_stamp line) line s store disk kept told
+  pub finish_line : (line : Line) (who : LineActor) (number : ℕ) → line ≡ Finish who → system_in (actor_of line) ≡ Some number → (actor_in who ≡ by.System number → IsTold g first (Finish who) s store disk kept told)
+      → IsTold g first line s store disk kept told
   finish_line line who number is its told_so =
-      subst (λ (l : Line). IsTold g first (stamped || gives_stamp l) l s store disk kept told) (sym is)
-      (subst (λ (b : Bool). IsTold g first b (Finish who) s store disk kept told) (or_none stamped) (told_so (system_is (actor_in who) number (subst (λ (l : Line). system_in (actor_of l) ≡ Some number) is its))))
+      subst (λ (l : Line). IsTold g first l s store disk kept told) (sym is)
+      (told_so (system_is (actor_in who) number (subst (λ (l : Line). system_in (actor_of l) ≡ Some number) is its)))
 
-pub busy_line : {D : Type 0} (g : Ghosts D) (first : D) (stamped : Bool) (s : Script) (store : Store) (disk : D) → IsAt g first stamped store disk s → (told : Told) (kept : Kept) (number : ℕ) (line : Line) → s.kept ≡ kept → system_in (actor_of line) ≡ Some number → is_there (evicting_by s.kept.evicting number) ≡ true
-    → told.reply ≡ Answered (Refused (Invalid InCall)) → IsCallLine line → ((who : LineActor) → line ≡ Step who → ⊥) → ((who : LineActor) → line ≡ Finish who → ⊥) → IsTold g first (stamped || gives_stamp line) line s store disk kept told
-busy_line g first stamped s store disk at told kept number line same its there is now step finish =
+pub busy_line : {D : Type 0} (g : Ghosts D) (first : D) (s : Script) (store : Store) (disk : D) → IsAt g first store disk s → (told : Told) (kept : Kept) (number : ℕ) (line : Line) → s.kept ≡ kept → system_in (actor_of line) ≡ Some number → is_there (evicting_by s.kept.evicting number) ≡ true
+    → told.reply ≡ Answered (Refused (Invalid InCall)) → IsCallLine line → ((who : LineActor) → line ≡ Step who → ⊥) → ((who : LineActor) → line ≡ Finish who → ⊥) → IsTold g first line s store disk kept told
+busy_line g first s store disk at told kept number line same its there is now step finish =
     let one = the_one (evicting_by s.kept.evicting number) there in
-    subst (λ (k : Kept). IsTold g first (stamped || gives_stamp line) line s store disk k told) same
-    (busy_told g first stamped s store disk at told number one.0 one.1 is line now (system_is (actor_of line) number its) step finish)
+    subst (λ (k : Kept). IsTold g first line s store disk k told) same
+    (busy_told g first s store disk at told number one.0 one.1 is line now (system_is (actor_of line) number its) step finish)
 
 -- ---- what it tells of faults
 

@@ -1,5 +1,5 @@
 -- What goes behind the line of an actor.
-use Rattle.std.specs.Prelude.{◌≡◌, ℕ, Bool, List, Option, None}
+use Rattle.std.specs.Prelude.{◌≡◌, Option, None}
 use Rattle.std.proofs.Common.{inl, inr, refl, sym, ap, subst, ◌∙◌}
 use Rattle.failure.specs.Counts.{Rose}
 use Rattle.disk_model.specs.declared.disk.Disk.{Ghosts}
@@ -9,23 +9,12 @@ use Rattle.script_text.specs.declared.line.Line.TheVariants.{Whole, Start, Step,
 use Rattle.script_text.specs.declared.replies.Reply.{Reply}
 use Rattle.item.specs.declared.formats.Formats.{Formats}
 use Rattle.engine.specs.declared.turning.Evicting.{Evicting}
-use Rattle.row_page.specs.Rows.{Row}
-use Rattle.engine_world.specs.Worlds.{World}
-use Rattle.ckpt_step.specs.Calm.{IsCalm}
-use Rattle.ckpt_step.specs.Plain.{IsPlain}
 use Rattle.engine_store.specs.declared.store.Store.{Store}
 use Rattle.engine_store.specs.Devices.{Device, IsLater, KeepsCheckpoint, device_of}
 use Rattle.engine_store.specs.Held.{IsHeld}
 use Rattle.engine_store.specs.Room.{RoomMade, RoomOf}
-use Rattle.engine_store.proofs.WritingOut.{plain_down}
 use Rattle.script_run.specs.Runs.{IsOfActor}
 use Rattle.script_run.specs.Scripts.{ActorReplies, Behind, GoneBehind, LeavesGone, Replies, RepliesBy, Script, actor_of, eviction_of}
-
--- ---- calm worlds
-
--- the calls that are under way are the same
-pub calm_as : (w : World) (m : Machine) (shelf : ℕ → List Row) (again : ℕ → Bool) → IsCalm w → IsPlain m → IsCalm (record w { machine = m; shelf = shelf; again = again })
-calm_as w m shelf again calm plain = record { plain = plain; doings = calm.doings; systems = calm.systems }
 
 -- ---- a line of an actor
 
@@ -54,7 +43,6 @@ module _ {D : Type 0} (g : Ghosts D) (first : D) (s : Script) (store store' : St
     pub start : later.first ≡ s.first
     pub kept : later.kept ≡ s.kept
     pub frames : later.frames ≡ s.frames
-    pub calm : IsCalm s.world → IsCalm later.world
 
   module _ (next : Machine) (x : RoomMade g first s.world s.first s.made store store' disk disk' next) where
     abbrev pub now : Script
@@ -70,14 +58,14 @@ module _ {D : Type 0} (g : Ghosts D) (first : D) (s : Script) (store store' : St
       leaves = refl;
     }
 
-    is_behind : GoneBehind s now → (IsCalm s.world → IsPlain next) → IsBehind
-    is_behind went plain = record { later = now; gone = went; held = x.held; device = refl; start = refl; kept = refl; frames = refl; calm = λ calm. calm_as s.world next x.shelf x.again calm (plain calm) }
+    is_behind : GoneBehind s now → IsBehind
+    is_behind went = record { later = now; gone = went; held = x.held; device = refl; start = refl; kept = refl; frames = refl }
 
   pub gone_behind : RoomOf g first s.world s.first s.made store store' disk disk' → IsBehind
   gone_behind (inl up) =
       is_behind s.world.machine up.room
-      (inl (record { device = device_of g disk'; gone = gone s.world.machine up.room; keeps = subst (λ (d : Device). KeepsCheckpoint d (device_of g disk')) (sym there) up.keeps })) (λ calm. calm.plain)
+      (inl (record { device = device_of g disk'; gone = gone s.world.machine up.room; keeps = subst (λ (d : Device). KeepsCheckpoint d (device_of g disk')) (sym there) up.keeps }))
   gone_behind (inr down) =
       let next = after_event s.world.machine (GoDown down.fault) in
       is_behind next down.room
-      (inr (record { fault = down.fault; device = device_of g disk'; gone = gone next down.room; rose = subst (λ (d : Device). Rose d.faults (g.faults disk')) (sym there) down.rose })) (λ calm. plain_down s.world.machine down.fault calm.plain)
+      (inr (record { fault = down.fault; device = device_of g disk'; gone = gone next down.room; rose = subst (λ (d : Device). Rose d.faults (g.faults disk')) (sym there) down.rose }))

@@ -1,5 +1,5 @@
 -- What the line of an actor keeps of a store and its disk, and what is printed of a line.
-use Rattle.std.specs.Prelude.{◌≡◌, ◌||◌, ◌++◌, ◌∷◌, [], ℕ, Bool, true, false, List, Option, Some, None, Result, Ok, Err, IfOk, IfErr, IsTrue}
+use Rattle.std.specs.Prelude.{◌≡◌, ◌++◌, ◌∷◌, [], ℕ, Bool, true, false, List, Option, Some, None, Result, Ok, Err, IfOk, IfErr, IsTrue}
 use Rattle.std.proofs.Common.{inr, refl, sym, ap, subst, ◌∙◌}
 use Rattle.std.proofs.lemmas.Bool.{false≢true}
 use Rattle.disk_model.specs.declared.disk.Disk.{Ghosts}
@@ -27,8 +27,7 @@ use Rattle.script_run.specs.declared.one_line.Stop.{Stop}
 use Rattle.script_run.specs.declared.one_line.Stop.TheVariants as stop
 use Rattle.engine_store.specs.Opened.{IsReady}
 use Rattle.script_run.specs.Runs.{IsAt, IsCallLine, IsOfActor, IsReplied, IsTold, LineMade}
-use Rattle.script_run.specs.Scripts.{IsLater, Script, actor_of, eviction_of, gives_stamp, listed, refusals_in}
-use Rattle.script_run.proofs.Calming.{CalmLaws, line_calm}
+use Rattle.script_run.specs.Scripts.{IsLater, Script, actor_of, eviction_of, listed, refusals_in}
 use Rattle.engine_store.proofs.OtherRecords.{kept_more}
 use Rattle.script_run.proofs.GoneBehind.{behind_actor, gone_behind, replies_free}
 
@@ -52,21 +51,13 @@ module _ {D : Type 0} (g : Ghosts D) where
 
 -- ---- a line of an actor
 
-pub or_first : (a b : Bool) → a || b ≡ false → a ≡ false
-or_first false b is = refl
-or_first true b is = is
-
-or_second : (a b : Bool) → a || b ≡ false → b ≡ false
-or_second false b is = is
-or_second true b is = absurd (false≢true (sym is))
-
 -- a line that is asked of no device
-pub call_line : (asked : Line) (stamped : Bool) → (IsLater stamped asked → ⊥) → ((x : ControlAsked) → asked ≡ Control x → ⊥) → IsCallLine asked
-call_line (Whole made) stamped now other = now
-call_line (Start made) stamped now other = now
-call_line (Step who) stamped now other = tt
-call_line (Finish who) stamped now other = tt
-call_line (Control asked) stamped now other = absurd (other asked refl)
+pub call_line : (asked : Line) → (IsLater asked → ⊥) → ((x : ControlAsked) → asked ≡ Control x → ⊥) → IsCallLine asked
+call_line (Whole made) now other = now
+call_line (Start made) now other = now
+call_line (Step who) now other = tt
+call_line (Finish who) now other = tt
+call_line (Control asked) now other = absurd (other asked refl)
 
 -- one that is no call
 pub of_actor : (asked : Line) → IsCallLine asked → ((x : Call) → asked ≡ Whole x → ⊥) → ((x : Call) → asked ≡ Start x → ⊥) → IsOfActor asked
@@ -77,9 +68,9 @@ of_actor (Finish who) now whole start = tt
 of_actor (Control asked) now whole start = absurd now
 
 -- behind the line leaves may have left their frames
-pub actor_told : {D : Type 0} (g : Ghosts D) (first : D) (store middle store' : Store) (disk between disk' : D) (asked : Line) (laws : CalmLaws) (stamped : Bool) (s : Script) (told : LineTold) (kept : Kept) → IsOfActor asked → eviction_of (actor_of asked) s.kept.evicting ≡ None → IsAt g first stamped store disk s
-    → (r : IsReplied g first s middle between asked kept told) → store'.frames ≡ middle.frames → RoomOf g first r.later.world r.later.first r.later.made middle store' between disk' → IsTold g first (stamped || gives_stamp asked) asked s store' disk' kept told
-actor_told g first store middle store' disk between disk' asked laws stamped s told kept now none at r frames room =
+pub actor_told : {D : Type 0} (g : Ghosts D) (first : D) (store middle store' : Store) (disk between disk' : D) (asked : Line) (s : Script) (told : LineTold) (kept : Kept) → IsOfActor asked → eviction_of (actor_of asked) s.kept.evicting ≡ None → IsAt g first store disk s
+    → (r : IsReplied g first s middle between asked kept told) → store'.frames ≡ middle.frames → RoomOf g first r.later.world r.later.first r.later.made middle store' between disk' → IsTold g first asked s store' disk' kept told
+actor_told g first store middle store' disk between disk' asked s told kept now none at r frames room =
     let behind = gone_behind g first r.later middle store' between disk' r.device room in
     record {
       later = behind.later;
@@ -88,7 +79,6 @@ actor_told g first store middle store' disk between disk' asked laws stamped s t
         held = behind.held;
         device = behind.device;
         frames = frames ∙ (r.frames ∙ ap Firm (sym behind.frames));
-        calm = λ none. behind.calm (line_calm laws s told.formats told.reply r.later asked (or_second stamped (gives_stamp asked) none) now (at.calm (or_first stamped (gives_stamp asked) none)) r.is);
       };
       start = behind.start ∙ r.start;
       kept_is = behind.kept ∙ r.kept_is;
@@ -105,17 +95,17 @@ printed_fault None reply is fault = absurd cc
 printed_fault (Some r) (Answered (Refused other)) is fault = cc
 printed_fault (Some r) _ is fault = absurd cc
 
-pub printed_made : {D : Type 0} (g : Ghosts D) (first : D) (text : List ℕ) (stamped : Bool) (s : Script) (store : Store) (disk : D) (kept : Kept) (asked : Line) (told : LineTold) (stamps : Bool) (result : Result Printed Stop)
-    → IsLine text asked → (IsLater stamped asked → ⊥) → IsTold g first (stamped || gives_stamp asked) asked s store disk kept told → stamps ≡ gives_stamp asked
-    → IfOk result (λ p. p.line.items ≡ line_of_reply told.formats told.reply ++ 10 ∷ []) → IfOk result (λ p. listed p.refusal ≡ refusals_in told.reply) → IfOk result (λ p. p.stamps ≡ stamps) → IfErr result (λ e. e ≡ stop.NoMemory)
-    → LineMade g first text stamped s store disk kept result
-printed_made g first text stamped s store disk kept asked told stamps (Ok printed) spelled now r gives line refusal is short = (
+pub printed_made : {D : Type 0} (g : Ghosts D) (first : D) (text : List ℕ) (s : Script) (store : Store) (disk : D) (kept : Kept) (asked : Line) (told : LineTold) (result : Result Printed Stop)
+    → IsLine text asked → (IsLater asked → ⊥) → IsTold g first asked s store disk kept told
+    → IfOk result (λ p. p.line.items ≡ line_of_reply told.formats told.reply ++ 10 ∷ []) → IfOk result (λ p. listed p.refusal ≡ refusals_in told.reply) → IfErr result (λ e. e ≡ stop.NoMemory)
+    → LineMade g first text s store disk kept result
+printed_made g first text s store disk kept asked told (Ok printed) spelled now r line refusal short = (
   asked,
   told.formats,
   told.reply,
   record { line = spelled; now = now; later = r.later; replies = r.replies; at = r.at; start = r.start; kept_is = r.kept_is },
-  record { line = line; refusal = refusal; stamps = is ∙ gives },
+  record { line = line; refusal = refusal },
 )
-printed_made g first text stamped s store disk kept asked told stamps (Err e) spelled now r gives line refusal is short =
-    subst (λ (x : Stop). LineMade g first text stamped s store disk kept (Err x)) (sym short)
+printed_made g first text s store disk kept asked told (Err e) spelled now r line refusal short =
+    subst (λ (x : Stop). LineMade g first text s store disk kept (Err x)) (sym short)
     (inr (asked, told.formats, told.reply, record { line = spelled; now = now; later = r.later; replies = r.replies; at = r.at; start = r.start; kept_is = r.kept_is }))

@@ -4,7 +4,6 @@ pub mod Opening
 pub mod Naming
 pub mod Replying
 pub mod Telling
-pub mod Calming
 pub mod GoneBehind
 pub mod EvictingLines
 pub mod Holding

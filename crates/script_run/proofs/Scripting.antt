@@ -1,6 +1,6 @@
 -- Lines that were run one after the other, and the run that they are the front of.
 use Rattle.std.proofs.Common.{◌≡◌, ◌∙◌, ◌++◌, ◌+◌, ◌≤◌, ℕ, List, [], ◌∷◌, length, refl, sym, ap, subst, inl, inr, append_assoc, arith}
-use Rattle.std.specs.Prelude.{◌⊎◌, ◌||◌, Bool, true, false, IsTrue, Option, Some, None, filter, cond}
+use Rattle.std.specs.Prelude.{◌⊎◌, Bool, true, false, IsTrue, Option, Some, None, filter, cond}
 use Rattle.std.proofs.lemmas.List.{append-nil}
 use Rattle.failure.specs.Counts.{Rose}
 use Rattle.wt_code.specs.declared.refusals.Refusal.{Refusal}
@@ -14,7 +14,6 @@ use Rattle.script_text.specs.Replies.{line_of_reply}
 use Rattle.disk_model.specs.declared.disk.Disk.{Ghosts}
 use Rattle.kv_model.specs.Machine.{Completed}
 use Rattle.engine_world.specs.Worlds.{World}
-use Rattle.ckpt_step.specs.Calm.{IsCalm}
 use Rattle.engine_store.specs.declared.frames.Frames.{Frames}
 use Rattle.engine_store.specs.declared.frames.Frames.TheVariants.{Firm}
 use Rattle.engine_store.specs.declared.store.Store.{Store}
@@ -24,7 +23,7 @@ use Rattle.script_run.specs.declared.script.End.TheVariants.{Stopped}
 use Rattle.script_run.specs.declared.script.Place.{Place}
 use Rattle.script_run.specs.declared.script.ScriptRun.{ScriptRun}
 use Rattle.script_run.specs.Lines.{AreLines, Held, IsCut}
-use Rattle.script_run.specs.Scripts.{Outside, Ran, RunsLines, Script, counts, ends, first_of, fresh, gives_stamp, listed, outside, nothing_kept, prints, refusals_in}
+use Rattle.script_run.specs.Scripts.{Outside, Ran, RunsLines, Script, counts, ends, first_of, fresh, listed, outside, nothing_kept, prints, refusals_in}
 use Rattle.script_run.specs.Runs.{IsAt, IsRun, MetFault}
 use Rattle.script_run.specs.Turns.{LineDone, TurnEnds, TurnGoesOn, met_with}
 use Rattle.script_run.proofs.Cutting.{gave_more, gave_none}
@@ -58,37 +57,35 @@ end-stays (Some all) now given (rest, is, front) at_end = subst (λ (o : Option 
 -- ---- lines that were run
 
 -- the lines were run and printed whole: what was printed, and the refusals in it
-abbrev pub DoneLines : List (List ℕ) → ℕ → ℕ → Bool → Script → ℕ → ℕ → Bool → Script → List ℕ → List Refusal → Type 0
-DoneLines [] at used stamped s at' used' stamped' s' text refusals = (at' ≡ at) × (used' ≡ used) × (stamped' ≡ stamped) × (s' ≡ s) × (text ≡ []) × (refusals ≡ [])
-DoneLines (line ∷ lines) at used stamped s at' used' stamped' s' text refusals =
-    (printed : List ℕ) × (refusal : Option Refusal) × (middle : Bool) × (later : Script) × (rest : List ℕ) × (others : List Refusal) × LineDone line used stamped middle s printed refusal later
-    × DoneLines lines (at + 1) (used + (length line + 1)) middle later at' used' stamped' s' rest others × (text ≡ printed ++ rest) × (refusals ≡ listed refusal ++ others)
+abbrev pub DoneLines : List (List ℕ) → ℕ → ℕ → Script → ℕ → ℕ → Script → List ℕ → List Refusal → Type 0
+DoneLines [] at used s at' used' s' text refusals = (at' ≡ at) × (used' ≡ used) × (s' ≡ s) × (text ≡ []) × (refusals ≡ [])
+DoneLines (line ∷ lines) at used s at' used' s' text refusals =
+    (printed : List ℕ) × (refusal : Option Refusal) × (later : Script) × (rest : List ℕ) × (others : List Refusal) × LineDone line used s printed refusal later
+    × DoneLines lines (at + 1) (used + (length line + 1)) later at' used' s' rest others × (text ≡ printed ++ rest) × (refusals ≡ listed refusal ++ others)
 
 -- one line more
-pub done-more : (lines : List (List ℕ)) (at used : ℕ) (stamped : Bool) (s : Script) (at' used' : ℕ) (stamped' : Bool) (s' : Script) (text : List ℕ) (refusals : List Refusal) (line printed : List ℕ) (refusal : Option Refusal) (last : Bool) (later : Script)
-    → DoneLines lines at used stamped s at' used' stamped' s' text refusals → LineDone line used' stamped' last s' printed refusal later
-    → DoneLines (lines ++ line ∷ []) at used stamped s (at' + 1) (used' + (length line + 1)) last later (text ++ printed) (refusals ++ listed refusal)
-done-more [] at used stamped s at' used' stamped' s' text refusals line printed refusal last later (at_is, used_is, stamped_is, same, no_text, none) done = (
+pub done-more : (lines : List (List ℕ)) (at used : ℕ) (s : Script) (at' used' : ℕ) (s' : Script) (text : List ℕ) (refusals : List Refusal) (line printed : List ℕ) (refusal : Option Refusal) (later : Script)
+    → DoneLines lines at used s at' used' s' text refusals → LineDone line used' s' printed refusal later
+    → DoneLines (lines ++ line ∷ []) at used s (at' + 1) (used' + (length line + 1)) later (text ++ printed) (refusals ++ listed refusal)
+done-more [] at used s at' used' s' text refusals line printed refusal later (at_is, used_is, same, no_text, none) done = (
   printed,
   refusal,
-  last,
   later,
   [],
   [],
-  subst (λ (b : Bool). LineDone line used b last s printed refusal later) stamped_is (subst (λ (x : Script). LineDone line used stamped' last x printed refusal later) same (subst (λ (n : ℕ). LineDone line n stamped' last s' printed refusal later) used_is done)),
-  (ap (λ (n : ℕ). n + 1) at_is, ap (λ (n : ℕ). n + (length line + 1)) used_is, refl, refl, refl, refl),
+  subst (λ (x : Script). LineDone line used x printed refusal later) same (subst (λ (n : ℕ). LineDone line n s' printed refusal later) used_is done),
+  (ap (λ (n : ℕ). n + 1) at_is, ap (λ (n : ℕ). n + (length line + 1)) used_is, refl, refl, refl),
   ap (λ (l : List ℕ). l ++ printed) no_text ∙ sym (append-nil printed),
   ap (λ (l : List Refusal). l ++ listed refusal) none ∙ sym (append-nil (listed refusal)),
 )
-done-more (first ∷ lines) at used stamped s at' used' stamped' s' text refusals line printed refusal last later (p, r, b, l, rest, others, one, more, is, all) done = (
+done-more (first ∷ lines) at used s at' used' s' text refusals line printed refusal later (p, r, l, rest, others, one, more, is, all) done = (
   p,
   r,
-  b,
   l,
   rest ++ printed,
   others ++ listed refusal,
   one,
-  done-more lines (at + 1) (used + (length first + 1)) b l at' used' stamped' s' rest others line printed refusal last later more done,
+  done-more lines (at + 1) (used + (length first + 1)) l at' used' s' rest others line printed refusal later more done,
   ap (λ (x : List ℕ). x ++ printed) is ∙ append_assoc p rest printed,
   ap (λ (x : List Refusal). x ++ listed refusal) all ∙ append_assoc (listed r) others (listed refusal),
 )
@@ -108,16 +105,15 @@ prints-so ran text rest printed line refusals others refusal reply is so all one
     (ap (λ (l : List Refusal). l ++ ran.replies) (all ∙ ap (λ (l : List Refusal). l ++ others) one) ∙ append_assoc (refusals_in reply) others ran.replies)
 
 -- the run behind the lines is one from their first, with them before it
-pub done-runs : (o : Outside) (lines : List (List ℕ)) (at used : ℕ) (stamped : Bool) (s : Script) (at' used' : ℕ) (stamped' : Bool) (s' : Script) (text : List ℕ) (refusals : List Refusal) (texts : List (List ℕ)) (ran : Ran)
-    → DoneLines lines at used stamped s at' used' stamped' s' text refusals → RunsLines o at' used' stamped' texts s' ran → RunsLines o at used stamped (lines ++ texts) s (behind text refusals ran)
-done-runs o [] at used stamped s at' used' stamped' s' text refusals texts ran (at_is, used_is, stamped_is, same, no_text, none) runs =
-    subst (λ (l : List ℕ). RunsLines o at used stamped texts s (behind l refusals ran)) (sym no_text)
-    (subst (λ (l : List Refusal). RunsLines o at used stamped texts s (behind [] l ran)) (sym none)
-    (subst (λ (x : Script). RunsLines o at used stamped texts x ran) same
-    (subst (λ (b : Bool). RunsLines o at used b texts s' ran) stamped_is
-    (subst (λ (n : ℕ). RunsLines o at n stamped' texts s' ran) used_is
-    (subst (λ (n : ℕ). RunsLines o n used' stamped' texts s' ran) at_is runs)))))
-done-runs o (line ∷ lines) at used stamped s at' used' stamped' s' text refusals texts ran (printed, refusal, middle, later, rest, others, one, more, is, all) runs =
+pub done-runs : (o : Outside) (lines : List (List ℕ)) (at used : ℕ) (s : Script) (at' used' : ℕ) (s' : Script) (text : List ℕ) (refusals : List Refusal) (texts : List (List ℕ)) (ran : Ran)
+    → DoneLines lines at used s at' used' s' text refusals → RunsLines o at' used' texts s' ran → RunsLines o at used (lines ++ texts) s (behind text refusals ran)
+done-runs o [] at used s at' used' s' text refusals texts ran (at_is, used_is, same, no_text, none) runs =
+    subst (λ (l : List ℕ). RunsLines o at used texts s (behind l refusals ran)) (sym no_text)
+    (subst (λ (l : List Refusal). RunsLines o at used texts s (behind [] l ran)) (sym none)
+    (subst (λ (x : Script). RunsLines o at used texts x ran) same
+    (subst (λ (n : ℕ). RunsLines o at n texts s' ran) used_is
+    (subst (λ (n : ℕ). RunsLines o n used' texts s' ran) at_is runs))))
+done-runs o (line ∷ lines) at used s at' used' s' text refusals texts ran (printed, refusal, later, rest, others, one, more, is, all) runs =
     inr (inr (
       one.room,
       one.asked,
@@ -131,8 +127,7 @@ done-runs o (line ∷ lines) at used stamped s at' used' stamped' s' text refusa
         inl (
           behind rest others ran,
           prints-so ran text rest printed (line_of_reply one.formats one.reply) refusals others refusal one.reply is one.printed_is all one.refusal_is,
-          subst (λ (b : Bool). RunsLines o (at + 1) (used + (length line + 1)) b (lines ++ texts) later (behind rest others ran)) one.stamped_is
-              (done-runs o lines (at + 1) (used + (length line + 1)) middle later at' used' stamped' s' rest others texts ran more runs),
+          done-runs o lines (at + 1) (used + (length line + 1)) later at' used' s' rest others texts ran more runs,
         ),
       ),
     ))
@@ -145,18 +140,18 @@ pub record IsWider (o o' : Outside) : Type 0 where
   pub ended : o.input_ended → o'.input_ended
   pub output : o.output_failed → o'.output_failed
 
-pub runs-wider : (o o' : Outside) (at used : ℕ) (stamped : Bool) (texts : List (List ℕ)) (s : Script) (ran : Ran) → IsWider o o' → RunsLines o at used stamped texts s ran → RunsLines o' at used stamped texts s ran
-runs-wider o o' at used stamped [] s ran wide (inl (ended, is)) = inl (wide.ended ended, is)
-runs-wider o o' at used stamped [] s ran wide (inr (inl (failed, is))) = inr (inl (wide.failed failed, is))
-runs-wider o o' at used stamped [] s ran wide (inr (inr is)) = inr (inr is)
-runs-wider o o' at used stamped (text ∷ texts) s ran wide (inl none) = inl none
-runs-wider o o' at used stamped (text ∷ texts) s ran wide (inr (inl short)) = inr (inl short)
-runs-wider o o' at used stamped (text ∷ texts) s ran wide (inr (inr (room, asked, spelled, now, inl stops))) = inr (inr (room, asked, spelled, now, inl stops))
-runs-wider o o' at used stamped (text ∷ texts) s ran wide (inr (inr (room, asked, spelled, now, inr (formats, reply, later, replies, inl (rest, is, runs))))) =
-    inr (inr (room, asked, spelled, now, inr (formats, reply, later, replies, inl (rest, is, runs-wider o o' (at + 1) (used + (length text + 1)) (stamped || gives_stamp asked) texts later rest wide runs))))
-runs-wider o o' at used stamped (text ∷ texts) s ran wide (inr (inr (room, asked, spelled, now, inr (formats, reply, later, replies, inr (inl (n, nil, failed, less, is)))))) =
+pub runs-wider : (o o' : Outside) (at used : ℕ) (texts : List (List ℕ)) (s : Script) (ran : Ran) → IsWider o o' → RunsLines o at used texts s ran → RunsLines o' at used texts s ran
+runs-wider o o' at used [] s ran wide (inl (ended, is)) = inl (wide.ended ended, is)
+runs-wider o o' at used [] s ran wide (inr (inl (failed, is))) = inr (inl (wide.failed failed, is))
+runs-wider o o' at used [] s ran wide (inr (inr is)) = inr (inr is)
+runs-wider o o' at used (text ∷ texts) s ran wide (inl none) = inl none
+runs-wider o o' at used (text ∷ texts) s ran wide (inr (inl short)) = inr (inl short)
+runs-wider o o' at used (text ∷ texts) s ran wide (inr (inr (room, asked, spelled, now, inl stops))) = inr (inr (room, asked, spelled, now, inl stops))
+runs-wider o o' at used (text ∷ texts) s ran wide (inr (inr (room, asked, spelled, now, inr (formats, reply, later, replies, inl (rest, is, runs))))) =
+    inr (inr (room, asked, spelled, now, inr (formats, reply, later, replies, inl (rest, is, runs-wider o o' (at + 1) (used + (length text + 1)) texts later rest wide runs))))
+runs-wider o o' at used (text ∷ texts) s ran wide (inr (inr (room, asked, spelled, now, inr (formats, reply, later, replies, inr (inl (n, nil, failed, less, is)))))) =
     inr (inr (room, asked, spelled, now, inr (formats, reply, later, replies, inr (inl (n, nil, wide.output failed, less, is)))))
-runs-wider o o' at used stamped (text ∷ texts) s ran wide (inr (inr (room, asked, spelled, now, inr (formats, reply, later, replies, inr (inr short))))) =
+runs-wider o o' at used (text ∷ texts) s ran wide (inr (inr (room, asked, spelled, now, inr (formats, reply, later, replies, inr (inr short))))) =
     inr (inr (room, asked, spelled, now, inr (formats, reply, later, replies, inr (inr short))))
 
 pub rose-before : (first before now : ℕ) → first ≤ before → Rose before now → Rose first now
@@ -202,6 +197,7 @@ frames-held g start disk store frames w first made held = record {
   stands = held.stands;
   idle = held.idle;
   kept = held.kept;
+  bare = held.bare;
   on = λ up. let x = held.on up in record { old = x.old; on = x.on; follows = x.follows; since = x.since; opens = x.opens; one = x.one };
   images = held.images;
   last = held.last;
@@ -220,21 +216,21 @@ module _ {D : Type 0} (g : Ghosts D) (disk : D) (w : World) (frames : ℕ) where
     pub text : List ℕ
     pub refusals : List Refusal
     pub script : Script
-    pub done : DoneLines texts 1 0 false (fresh w (device_of g disk) frames) place.line place.used place.stamped script text refusals
+    pub done : DoneLines texts 1 0 (fresh w (device_of g disk) frames) place.line place.used script text refusals
     pub took : Took (sink.written out) (sink.written out') text
     pub met : place.met ≡ first_of (filter counts refusals)
-    pub at : IsAt g disk place.stamped store now script
+    pub at : IsAt g disk store now script
     pub start : script.first ≡ w.machine.completed
     pub kept : script.kept ≡ place.kept
 
   -- before the first line
-  pub first-at : (store : Store) → store.frames ≡ Firm frames → IsHeld g disk store disk w w.machine.completed [] → IsCalm w → (stamped : Bool) → IsAt g disk stamped store disk (fresh w (device_of g disk) frames)
-  first-at store firm held calm stamped = record { held = held; device = refl; frames = firm; calm = λ none. calm }
+  pub first-at : (store : Store) → store.frames ≡ Firm frames → IsHeld g disk store disk w w.machine.completed [] → IsAt g disk store disk (fresh w (device_of g disk) frames)
+  first-at store firm held = record { held = held; device = refl; frames = firm }
 
   pub none-done : {S K : Type 0} (source : SourceGhosts S) (sink : SinkGhosts K) (input : S) (out : K) (held : Held) (place : Place) (store : Store) → store.frames ≡ Firm frames
-      → held.behind ≡ [] → place.line ≡ 1 → place.used ≡ 0 → place.stamped ≡ false → place.kept ≡ nothing_kept → place.met ≡ None → IsHeld g disk store disk w w.machine.completed [] → IsCalm w
+      → held.behind ≡ [] → place.line ≡ 1 → place.used ≡ 0 → place.kept ≡ nothing_kept → place.met ≡ None → IsHeld g disk store disk w w.machine.completed []
       → IsDone source sink input input out out held place store disk
-  none-done source sink input out held place store firm empty line used stamped formats met holds calm = record {
+  none-done source sink input out held place store firm empty line used formats met holds = record {
     given = [];
     gave = gave_none (source.left input);
     texts = [];
@@ -242,10 +238,10 @@ module _ {D : Type 0} (g : Ghosts D) (disk : D) (w : World) (frames : ℕ) where
     text = [];
     refusals = [];
     script = fresh w (device_of g disk) frames;
-    done = (line, used, stamped, refl, refl, refl);
+    done = (line, used, refl, refl, refl);
     took = took_none (sink.written out);
     met = met;
-    at = first-at store firm holds calm place.stamped;
+    at = first-at store firm holds;
     start = refl;
     kept = sym formats;
   }
@@ -257,7 +253,7 @@ module _ {D : Type 0} (g : Ghosts D) (disk : D) (w : World) (frames : ℕ) where
   more-done source sink input input' input'' out out' out'' held held' place next store store' now now' stays d t =
       let l = t.line in
       let begin = fresh w (device_of g disk) frames in
-      let all = done-more d.texts 1 0 false begin place.line place.used place.stamped d.script d.text d.refusals held'.line l.printed l.refusal next.stamped l.later d.done l.done in
+      let all = done-more d.texts 1 0 begin place.line place.used d.script d.text d.refusals held'.line l.printed l.refusal l.later d.done l.done in
       record {
         given = d.given ++ t.given;
         gave = gave_more (source.left input) (source.left input') (source.left input'') d.given t.given d.gave t.gave.0;
@@ -266,8 +262,8 @@ module _ {D : Type 0} (g : Ghosts D) (disk : D) (w : World) (frames : ℕ) where
         text = d.text ++ l.printed;
         refusals = d.refusals ++ listed l.refusal;
         script = l.later;
-        done = subst (λ (n : ℕ). DoneLines (d.texts ++ held'.line ∷ []) 1 0 false begin n next.used next.stamped l.later (d.text ++ l.printed) (d.refusals ++ listed l.refusal)) (sym l.line)
-            (subst (λ (n : ℕ). DoneLines (d.texts ++ held'.line ∷ []) 1 0 false begin (place.line + 1) n next.stamped l.later (d.text ++ l.printed) (d.refusals ++ listed l.refusal)) (sym l.used) all);
+        done = subst (λ (n : ℕ). DoneLines (d.texts ++ held'.line ∷ []) 1 0 begin n next.used l.later (d.text ++ l.printed) (d.refusals ++ listed l.refusal)) (sym l.line)
+            (subst (λ (n : ℕ). DoneLines (d.texts ++ held'.line ∷ []) 1 0 begin (place.line + 1) n l.later (d.text ++ l.printed) (d.refusals ++ listed l.refusal)) (sym l.used) all);
         took = took_more (sink.written out) (sink.written out') (sink.written out'') d.text l.printed d.took l.took;
         met = l.met ∙ ap (λ (m : Option Refusal). met_with m l.refusal) d.met ∙ met-more d.refusals l.refusal;
         at = l.at;
@@ -290,8 +286,8 @@ module _ {D : Type 0} (g : Ghosts D) (disk : D) (w : World) (frames : ℕ) where
       } in
       let begin = fresh w (device_of g disk) frames in
       let ran : Ran = behind d.text d.refusals t.run.ran in
-      let runs : RunsLines o 1 0 false (d.texts ++ t.texts) begin ran =
-      done-runs o d.texts 1 0 false begin place.line place.used place.stamped d.script d.text d.refusals t.texts t.run.ran d.done (runs-wider own o place.line place.used place.stamped t.texts d.script t.run.ran wide t.run.runs) in
+      let runs : RunsLines o 1 0 (d.texts ++ t.texts) begin ran =
+      done-runs o d.texts 1 0 begin place.line place.used d.script d.text d.refusals t.texts t.run.ran d.done (runs-wider own o place.line place.used t.texts d.script t.run.ran wide t.run.runs) in
       let none : d.refusals ++ t.run.ran.replies ≡ d.refusals = ap (λ (l : List Refusal). d.refusals ++ l) t.run.no_reply ∙ append-nil d.refusals in
       record {
         given = d.given ++ t.given;

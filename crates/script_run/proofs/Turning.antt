@@ -1,6 +1,6 @@
 -- What a turn comes to, by the line that it read and what was made of it.
 use Rattle.std.proofs.Common.{◌≡◌, ◌∙◌, ◌++◌, ◌+◌, ◌≤◌, ◌<◌, ℕ, List, [], ◌∷◌, length, take, refl, sym, ap, subst, inl, inr}
-use Rattle.std.specs.Prelude.{◌||◌, Bool, IfSome, IsTrue, Ok, Err, Option, Some, None}
+use Rattle.std.specs.Prelude.{Bool, IfSome, IsTrue, Ok, Err, Option, Some, None}
 use Rattle.wt_code.specs.declared.refusals.Refusal.{Refusal}
 use Rattle.wt_code.specs.declared.refusals.Refusal.TheVariants.{Invalid, NoMemory}
 use Rattle.wt_code.specs.declared.refusals.Invalid.TheVariants.{Text}
@@ -19,10 +19,9 @@ use Rattle.script_run.specs.declared.script.End.TheVariants.{Through, Stopped, I
 use Rattle.script_run.specs.declared.script.Place.{Place}
 use Rattle.script_run.specs.declared.script.TheConstants.{INPUT_MAX}
 use Rattle.script_run.specs.Lines.{GaveMore, Held, IsCut}
-use Rattle.script_run.specs.Scripts.{RunsLines, Script, ends, gives_stamp, outside}
+use Rattle.script_run.specs.Scripts.{RunsLines, Script, ends, outside}
 use Rattle.script_run.specs.Runs.{IsAt, LineMade}
 use Rattle.script_run.specs.Turns.{LineTurn, PrintTurn, RunEnds, TurnEnds, TurnMade, of_output}
-use Rattle.script_run.proofs.Devices.{at_any}
 use Rattle.script_run.proofs.Scripting.{IsWider, runs-wider}
 
 -- ---- a line
@@ -33,7 +32,7 @@ stops_same r x is = cc
 -- disk: the device as the run began; s: before the line; store and now: what it leaves
 module _ {D K : Type 0} (g : Ghosts D) (disk : D) (sink : SinkGhosts K) (text : List ℕ) (s : Script) (store : Store) (now : D) where
   -- it has a byte behind those that an input may have
-  pub line-long : (out : K) (place : Place) → INPUT_MAX < place.used + length text → IsAt g disk place.stamped store now s
+  pub line-long : (out : K) (place : Place) → INPUT_MAX < place.used + length text → IsAt g disk store now s
       → RunEnds g disk store now (of_output sink out out) sink out out (text ∷ []) s place place (Stopped (Invalid (Text place.line)))
   line-long out place long at = record {
     ran = ends (Stopped (Invalid (Text place.line))) s;
@@ -41,13 +40,13 @@ module _ {D K : Type 0} (g : Ghosts D) (disk : D) (sink : SinkGhosts K) (text : 
     end_is = refl;
     no_reply = refl;
     took = took_none (sink.written out);
-    at = at_any g disk place.stamped store now s at;
+    at = at;
     start = refl;
     met = refl;
   }
 
   -- it is none
-  pub line-none : (out : K) (place : Place) (kept : Kept) → LineMade g disk text place.stamped s store now kept (Err stop.NoLine)
+  pub line-none : (out : K) (place : Place) (kept : Kept) → LineMade g disk text s store now kept (Err stop.NoLine)
       → RunEnds g disk store now (of_output sink out out) sink out out (text ∷ []) s place (record place { kept = kept }) (Stopped (Invalid (Text place.line)))
   line-none out place kept made = record {
     ran = ends (Stopped (Invalid (Text place.line))) s;
@@ -55,13 +54,13 @@ module _ {D K : Type 0} (g : Ghosts D) (disk : D) (sink : SinkGhosts K) (text : 
     end_is = refl;
     no_reply = refl;
     took = took_none (sink.written out);
-    at = at_any g disk place.stamped store now s made.1;
+    at = made.1;
     start = refl;
     met = refl;
   }
 
   -- memory is wanted
-  pub line-stops : (out : K) (place : Place) (kept : Kept) → place.used + length text ≤ INPUT_MAX → LineMade g disk text place.stamped s store now kept (Err stop.NoMemory)
+  pub line-stops : (out : K) (place : Place) (kept : Kept) → place.used + length text ≤ INPUT_MAX → LineMade g disk text s store now kept (Err stop.NoMemory)
       → RunEnds g disk store now (of_output sink out out) sink out out (text ∷ []) s place (record place { kept = kept }) (Stopped NoMemory)
   line-stops out place kept room (inl at) = record {
     ran = ends (Stopped NoMemory) s;
@@ -69,7 +68,7 @@ module _ {D K : Type 0} (g : Ghosts D) (disk : D) (sink : SinkGhosts K) (text : 
     end_is = refl;
     no_reply = refl;
     took = took_none (sink.written out);
-    at = at_any g disk place.stamped store now s at;
+    at = at;
     start = refl;
     met = refl;
   }
@@ -79,13 +78,13 @@ module _ {D K : Type 0} (g : Ghosts D) (disk : D) (sink : SinkGhosts K) (text : 
     end_is = refl;
     no_reply = refl;
     took = took_none (sink.written out);
-    at = at_any g disk (place.stamped || gives_stamp asked) store now run.later run.at;
+    at = run.at;
     start = run.start;
     met = refl;
   }
 
   -- the device was not opened
-  pub line-shut : (out : K) (place : Place) (kept : Kept) (r : Refusal) → place.used + length text ≤ INPUT_MAX → LineMade g disk text place.stamped s store now kept (Err (stop.Opening r))
+  pub line-shut : (out : K) (place : Place) (kept : Kept) (r : Refusal) → place.used + length text ≤ INPUT_MAX → LineMade g disk text s store now kept (Err (stop.Opening r))
       → RunEnds g disk store now (of_output sink out out) sink out out (text ∷ []) s place (record place { kept = kept }) (Stopped r)
   line-shut out place kept r room (asked, spelled, fits, x) = record {
     ran = ends (Stopped r) x.later;
@@ -100,9 +99,8 @@ module _ {D K : Type 0} (g : Ghosts D) (disk : D) (sink : SinkGhosts K) (text : 
 
   -- it was run, and printed whole or not
   pub line-told : (out out' : K) (place next : Place) (kept : Kept) (printed : Printed) (end : Option End)
-      → place.used + length text ≤ INPUT_MAX → LineMade g disk text place.stamped s store now kept (Ok printed) → PrintTurn sink out out' printed (length text) (record place { kept = kept }) next end → LineTurn g disk store now sink out out' text s place next end
+      → place.used + length text ≤ INPUT_MAX → LineMade g disk text s store now kept (Ok printed) → PrintTurn sink out out' printed (length text) (record place { kept = kept }) next end → LineTurn g disk store now sink out out' text s place next end
   line-told out out' place next kept printed None room (asked, formats, reply, run, is) p =
-      let stamped : next.stamped ≡ (place.stamped || gives_stamp asked) = p.behind.stamped ∙ ap (λ (b : Bool). place.stamped || b) is.stamps in
       record {
         printed = printed.line.items;
         refusal = printed.refusal;
@@ -117,10 +115,9 @@ module _ {D K : Type 0} (g : Ghosts D) (disk : D) (sink : SinkGhosts K) (text : 
           replies = run.replies;
           printed_is = is.line;
           refusal_is = is.refusal;
-          stamped_is = stamped;
         };
         took = p.took;
-        at = subst (λ (b : Bool). IsAt g disk b store now run.later) (sym stamped) run.at;
+        at = run.at;
         start = run.start;
         kept = run.kept_is ∙ sym p.kept;
         line = p.behind.line;
@@ -137,7 +134,7 @@ module _ {D K : Type 0} (g : Ghosts D) (disk : D) (sink : SinkGhosts K) (text : 
         end_is = p.end_is;
         no_reply = refl;
         took = subst (λ (l : List ℕ). Took (sink.written out) (sink.written out') (take n l)) is.line p.took.2;
-        at = at_any g disk (place.stamped || gives_stamp asked) store now run.later run.at;
+        at = run.at;
         start = run.start;
         met = ap (λ (x : Place). x.met) p.same;
       }
@@ -148,7 +145,7 @@ module _ {D S K : Type 0} (g : Ghosts D) (disk : D) (source : SourceGhosts S) (s
   -- there is no line more, or none could be read
   pub turn-ends : (input input' : S) (out : K) (held : Held) (place : Place) (end : End) (given behind : List ℕ) (ended : Bool)
       → GaveMore held.ended (source.left input) (source.left input') given → (IsTrue ended → AtEnd (source.left input')) → (IsTrue held.ended → IsTrue ended) → held.behind ++ given ≡ behind → (end ≡ Through → behind ≡ [])
-      → RunsLines (outside source sink input input' out out) place.line place.used place.stamped [] s (ends end s) → IsAt g disk place.stamped store now s
+      → RunsLines (outside source sink input input' out out) place.line place.used [] s (ends end s) → IsAt g disk store now s
       → TurnEnds g disk store now source sink input input' out out held place place s end
   turn-ends input input' out held place end given behind ended gave at_end stays is whole runs at = record {
     given = given;
@@ -159,7 +156,7 @@ module _ {D S K : Type 0} (g : Ghosts D) (disk : D) (source : SourceGhosts S) (s
     at_end = at_end;
     stays = stays;
     lines = is;
-    run = record { ran = ends end s; runs = runs; end_is = refl; no_reply = refl; took = took_none (sink.written out); at = at_any g disk place.stamped store now s at; start = refl; met = refl };
+    run = record { ran = ends end s; runs = runs; end_is = refl; no_reply = refl; took = took_none (sink.written out); at = at; start = refl; met = refl };
     whole = whole;
   }
 
@@ -184,7 +181,7 @@ module _ {D S K : Type 0} (g : Ghosts D) (disk : D) (source : SourceGhosts S) (s
         lines = (held'.behind, cut, refl);
         run = record {
           ran = line.ran;
-          runs = runs-wider o o' place.line place.used place.stamped (held'.line ∷ []) s line.ran wide line.runs;
+          runs = runs-wider o o' place.line place.used (held'.line ∷ []) s line.ran wide line.runs;
           end_is = line.end_is;
           no_reply = line.no_reply;
           took = line.took;

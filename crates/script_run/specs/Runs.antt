@@ -1,5 +1,5 @@
 -- What the functions that run a line do.
-use Rattle.std.specs.Prelude.{◌≡◌, ◌⊎◌, ◌<◌, ◌∷◌, ◌++◌, ◌||◌, [], ℕ, Bool, true, false, List, Option, Some, Result, Ok, Err, length, filter, IsTrue}
+use Rattle.std.specs.Prelude.{◌≡◌, ◌⊎◌, ◌<◌, ◌∷◌, ◌++◌, [], ℕ, Bool, List, Option, Some, Result, Ok, Err, length, filter, IsTrue}
 use Rattle.item.specs.declared.formats.Formats.{Formats}
 use Rattle.wt_code.specs.declared.refusals.Refusal.{Refusal}
 use Rattle.wt_code.specs.declared.answers.Answer.{Answer}
@@ -11,7 +11,6 @@ use Rattle.engine_store.specs.declared.store.Store.{Store}
 use Rattle.engine_store.specs.Calls.{MayAnswerOn}
 use Rattle.engine_store.specs.Devices.{device_of}
 use Rattle.engine_store.specs.Held.{IsHeld}
-use Rattle.ckpt_step.specs.Calm.{IsCalm}
 use Rattle.wt_io.specs.Streams.{Gave, Took}
 use Rattle.wt_calls.specs.declared.call.Call.{Call}
 use Rattle.wt_calls.specs.declared.call.Call.TheVariants as call
@@ -38,7 +37,7 @@ use Rattle.script_run.specs.Faults.{RepliesFault, TellsFaults}
 use Rattle.script_run.specs.Lines.{AreLines}
 use Rattle.wt_io.specs.declared.streams.Source.{Ghosts as SourceGhosts}
 use Rattle.wt_io.specs.declared.streams.Sink.{Ghosts as SinkGhosts}
-use Rattle.script_run.specs.Scripts.{outside, ActorReplies, Answers, Begins, CauseOn, Ends, Goes, Outside, Ran, Refuses, RunsLine, RunsLines, Script, IsLater, IsLaterCall, IsUnbuilt, NoSession, StopsBy, actor_in, caller, counts, first_of, fresh, gives_stamp, listed, missing, opened_more, refusals_in}
+use Rattle.script_run.specs.Scripts.{outside, ActorReplies, Answers, Begins, CauseOn, Ends, Goes, Outside, Ran, Refuses, RunsLine, RunsLines, Script, IsLater, IsLaterCall, IsUnbuilt, NoSession, StopsBy, actor_in, caller, counts, first_of, fresh, listed, missing, opened_more, refusals_in}
 
 -- one of the four actors of the system, or any session
 abbrev pub IsKnown : Actor → Type 0
@@ -89,12 +88,11 @@ IsCallLine (OfAll asked) = ⊥
 
 -- ---- on a device
 
--- The store and its disk stand for s, in a run that began on the first disk. Until a commit has a stamp, none that is under way has one.
-pub record IsAt {D : Type 0} (g : Ghosts D) (first : D) (stamped : Bool) (store : Store) (disk : D) (s : Script) : Type 0 where
+-- The store and its disk stand for s, in a run that began on the first disk.
+pub record IsAt {D : Type 0} (g : Ghosts D) (first : D) (store : Store) (disk : D) (s : Script) : Type 0 where
   pub held : IsHeld g first store disk s.world s.first s.made
   pub device : s.device ≡ device_of g disk
   pub frames : store.frames ≡ Firm s.frames
-  pub calm : stamped ≡ false → IsCalm s.world
 
 -- ---- of an actor, in a run that began on the first disk
 
@@ -155,17 +153,16 @@ frames_after (Frames count) (Ok told) before = count
 frames_after _ result before = before
 
 -- what is printed of a line
-pub record IsPrintedOf (asked : Line) (formats : Formats) (reply : Reply) (printed : Printed) : Type 0 where
+pub record IsPrintedOf (formats : Formats) (reply : Reply) (printed : Printed) : Type 0 where
   pub line : printed.line.items ≡ line_of_reply formats reply ++ 10 ∷ []
   pub refusal : listed printed.refusal ≡ refusals_in reply
-  pub stamps : printed.stamps ≡ gives_stamp asked
 
 module _ {D : Type 0} (g : Ghosts D) (first : D) where
   -- a line was replied to, and left the store and its disk so
-  pub record IsTold (stamped : Bool) (asked : Line) (s : Script) (store : Store) (disk : D) (kept : Kept) (told : Told) : Type 0 where
+  pub record IsTold (asked : Line) (s : Script) (store : Store) (disk : D) (kept : Kept) (told : Told) : Type 0 where
     pub later : Script
     pub replies : RunsLine asked s told.formats told.reply later
-    pub at : IsAt g first stamped store disk later
+    pub at : IsAt g first store disk later
     pub start : later.first ≡ s.first
     pub kept_is : later.kept ≡ kept
 
@@ -173,31 +170,31 @@ module _ {D : Type 0} (g : Ghosts D) (first : D) where
   pub record IsStopped (asked : Line) (s : Script) (store : Store) (disk : D) (r : Refusal) : Type 0 where
     pub later : Script
     pub stops : StopsBy asked s r later
-    pub at : IsAt g first true store disk later
+    pub at : IsAt g first store disk later
     pub start : later.first ≡ s.first
 
-  abbrev pub RepliedAs : Bool → Line → Script → Store → D → Kept → Result Told Refusal → Type 0
-  RepliedAs stamped asked s store disk kept (Ok told) = IsTold stamped asked s store disk kept told
-  RepliedAs stamped asked s store disk kept (Err r) = IsStopped asked s store disk r
+  abbrev pub RepliedAs : Line → Script → Store → D → Kept → Result Told Refusal → Type 0
+  RepliedAs asked s store disk kept (Ok told) = IsTold asked s store disk kept told
+  RepliedAs asked s store disk kept (Err r) = IsStopped asked s store disk r
 
   -- a line was run, and told so
-  pub record IsLineRun (text : List ℕ) (stamped : Bool) (s : Script) (store : Store) (disk : D) (kept : Kept) (asked : Line) (formats : Formats) (reply : Reply) : Type 0 where
+  pub record IsLineRun (text : List ℕ) (s : Script) (store : Store) (disk : D) (kept : Kept) (asked : Line) (formats : Formats) (reply : Reply) : Type 0 where
     pub line : IsLine text asked
-    pub now : IsLater stamped asked → ⊥
+    pub now : IsLater asked → ⊥
     pub later : Script
     pub replies : RunsLine asked s formats reply later
-    pub at : IsAt g first (stamped || gives_stamp asked) store disk later
+    pub at : IsAt g first store disk later
     pub start : later.first ≡ s.first
     pub kept_is : later.kept ≡ kept
 
   -- what was made of a line: this is printed of it; or it is none; or for want of memory nothing was made of it, or its reply is not printed; or the device was not opened
-  abbrev pub LineMade : List ℕ → Bool → Script → Store → D → Kept → Result Printed Stop → Type 0
-  LineMade text stamped s store disk kept (Ok printed) =
-      (asked : Line) × (formats : Formats) × (reply : Reply) × IsLineRun text stamped s store disk kept asked formats reply × IsPrintedOf asked formats reply printed
-  LineMade text stamped s store disk kept (Err stop.NoLine) = ((asked : Line) → IsLine text asked → IsLater stamped asked) × IsAt g first stamped store disk s
-  LineMade text stamped s store disk kept (Err stop.NoMemory) =
-      IsAt g first stamped store disk s ⊎ ((asked : Line) × (formats : Formats) × (reply : Reply) × IsLineRun text stamped s store disk kept asked formats reply)
-  LineMade text stamped s store disk kept (Err (stop.Opening r)) = (asked : Line) × IsLine text asked × (IsLater stamped asked → ⊥) × IsStopped asked s store disk r
+  abbrev pub LineMade : List ℕ → Script → Store → D → Kept → Result Printed Stop → Type 0
+  LineMade text s store disk kept (Ok printed) =
+      (asked : Line) × (formats : Formats) × (reply : Reply) × IsLineRun text s store disk kept asked formats reply × IsPrintedOf formats reply printed
+  LineMade text s store disk kept (Err stop.NoLine) = ((asked : Line) → IsLine text asked → IsLater asked) × IsAt g first store disk s
+  LineMade text s store disk kept (Err stop.NoMemory) =
+      IsAt g first store disk s ⊎ ((asked : Line) × (formats : Formats) × (reply : Reply) × IsLineRun text s store disk kept asked formats reply)
+  LineMade text s store disk kept (Err (stop.Opening r)) = (asked : Line) × IsLine text asked × (IsLater asked → ⊥) × IsStopped asked s store disk r
 
 -- a fault of the disk is printed, or stopped the run
 abbrev pub PrintsFault : Result Printed Stop → Type 0
@@ -223,7 +220,7 @@ pub record IsRun {D : Type 0} (g : Ghosts D) (o : Outside) (left left' written w
   pub at_end : IsTrue ended → o.input_ended
   pub lines : AreLines ended given texts behind
   pub ran : Ran
-  pub runs : RunsLines o 1 0 false texts (fresh w (device_of g before) frames) ran
+  pub runs : RunsLines o 1 0 texts (fresh w (device_of g before) frames) ran
   pub took : Took written written' ran.text
   pub end_is : told.end ≡ ran.end
   -- the first fault of the disk or want of memory that a line replied

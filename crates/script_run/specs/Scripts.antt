@@ -1,5 +1,5 @@
 -- What the lines of a script reply, what each leaves, and how a script ends.
-use Rattle.std.specs.Prelude.{◌≡◌, ◌⊎◌, ◌<◌, ◌≤◌, ◌+◌, ◌-◌, ◌||◌, ℕ, zero, suc, Bool, true, false, IsTrue, MatchBool, List, [], ◌∷◌, ◌++◌, length, take, replicate, slice_index_or, slice_set, Option, None, Some}
+use Rattle.std.specs.Prelude.{◌≡◌, ◌⊎◌, ◌<◌, ◌≤◌, ◌+◌, ◌-◌, ◌||◌, ℕ, zero, suc, Bool, true, false, MatchBool, List, [], ◌∷◌, ◌++◌, length, take, replicate, slice_index_or, slice_set, Option, None, Some}
 use Rattle.limits.specs.declared.TheConstants.{SESSIONS_MAX}
 use Rattle.failure.specs.Counts.{Rose}
 use Rattle.failure.specs.declared.Fault.{Fault}
@@ -24,7 +24,6 @@ use Rattle.kv_model.specs.Holds.{Member}
 use Rattle.stored.specs.Stored.{Reads}
 use Rattle.wt_calls.specs.declared.call.Call.{Call}
 use Rattle.wt_calls.specs.declared.call.Call.TheVariants as call
-use Rattle.wt_calls.specs.declared.session_call.SessionCall.TheVariants as session_call
 use Rattle.wt_calls.specs.declared.system_call.SystemCall.{SystemCall}
 use Rattle.wt_calls.specs.declared.system_call.SystemCall.TheVariants as system
 use Rattle.call_steps.specs.declared.stage.Target.{Target}
@@ -108,29 +107,12 @@ abbrev pub IsLaterCall : Call → Type 0
 IsLaterCall (call.Session session made) = ⊥
 IsLaterCall (call.System number made) = IsMade made → ⊥
 
--- a checkpoint and a close are once the text has committed with a stamp
-abbrev pub IsLaterControl : Bool → Control → Type 0
-IsLaterControl stamped Checkpoint = IsTrue stamped
-IsLaterControl stamped Close = IsTrue stamped
-IsLaterControl stamped Crash = ⊥
-IsLaterControl stamped (Frames count) = ⊥
-
-abbrev pub IsLater : Bool → Line → Type 0
-IsLater stamped (Whole made) = IsLaterCall made
-IsLater stamped (Start made) = IsLaterCall made
-IsLater stamped (Step who) = ⊥
-IsLater stamped (Finish who) = ⊥
-IsLater stamped (OfAll asked) = IsLaterControl stamped asked
-
--- the text of the line commits with a stamp
-abbrev pub call_stamps : Call → Bool
-call_stamps (call.Session session (session_call.Commit commit durable)) = is_there commit || is_there durable
-call_stamps _ = false
-
-abbrev pub gives_stamp : Line → Bool
-gives_stamp (Whole made) = call_stamps made
-gives_stamp (Start made) = call_stamps made
-gives_stamp _ = false
+abbrev pub IsLater : Line → Type 0
+IsLater (Whole made) = IsLaterCall made
+IsLater (Start made) = IsLaterCall made
+IsLater (Step who) = ⊥
+IsLater (Finish who) = ⊥
+IsLater (OfAll asked) = ⊥
 
 -- ---- actors
 
@@ -328,7 +310,7 @@ pub record EvictionRests (number : ℕ) (s : Script) (reply : Reply) (later : Sc
 
 -- ---- lines that are asked of the device
 
--- the world of an engine as an opening makes it, with these rows in leaves that are in no frame: no session, nothing started, and nothing in the history
+-- The world of an engine as an opening makes it, with these rows in leaves that are in no frame: no session, and nothing started. The older versions that it has are those that its store keeps, whatever a world says of them.
 abbrev pub opened_world : Machine → (ℕ → List Row) → World
 opened_world m shelf = record { machine = m; sessions = []; systems = None ∷ None ∷ None ∷ None ∷ []; shelf = shelf; records = λ id key. []; again = λ session. false }
 
@@ -553,8 +535,8 @@ abbrev pub prints : List ℕ → Reply → Ran → Ran
 prints line reply ran = record ran { text = line ++ 10 ∷ ran.text; replies = refusals_in reply ++ ran.replies }
 
 -- the line is none, is of a later stage, or has a byte behind those that an input may have
-abbrev pub IsNone : Bool → ℕ → List ℕ → Type 0
-IsNone stamped used text = ((asked : Line) → IsLine text asked → IsLater stamped asked) ⊎ (INPUT_MAX < used + length text)
+abbrev pub IsNone : ℕ → List ℕ → Type 0
+IsNone used text = ((asked : Line) → IsLine text asked → IsLater asked) ⊎ (INPUT_MAX < used + length text)
 
 -- What is printed of a reply and what follows: all of it and the lines behind it, a front of it where the output fails, or nothing for want of memory. The last two end the run.
 abbrev pub Prints : Outside → List ℕ → (Ran → Type 0) → List (List ℕ) → Reply → Script → Ran → Type 0
@@ -563,17 +545,17 @@ Prints o line Rest texts reply later ran =
     ⊎ (((n : ℕ) × (texts ≡ []) × o.output_failed × (n < length (line ++ 10 ∷ [])) × (ran ≡ record (ends OutputFailed later) { text = take n (line ++ 10 ∷ []) }))
     ⊎ ((texts ≡ []) × (ran ≡ ends (Stopped refusal.NoMemory) later)))
 
--- The lines in order, the first of them with this number, behind so many bytes of lines with their newlines; stamped: the text of one of those committed with a stamp. A line that is none, an opening that is refused, want of memory and a stream that fails end the run; a refusal that a line replies does not.
-abbrev pub RunsLines : Outside → ℕ → ℕ → Bool → List (List ℕ) → Script → Ran → Type 0
-RunsLines o at used stamped [] s ran =
+-- The lines in order, the first of them with this number, behind so many bytes of lines with their newlines. A line that is none, an opening that is refused, want of memory and a stream that fails end the run; a refusal that a line replies does not.
+abbrev pub RunsLines : Outside → ℕ → ℕ → List (List ℕ) → Script → Ran → Type 0
+RunsLines o at used [] s ran =
     (o.input_ended × (ran ≡ ends Through s)) ⊎ ((o.input_failed × (ran ≡ ends InputFailed s)) ⊎ (ran ≡ ends (Stopped refusal.NoMemory) s))
-RunsLines o at used stamped (text ∷ texts) s ran =
-    (IsNone stamped used text × (texts ≡ []) × (ran ≡ ends (Stopped (refusal.Invalid (Text at))) s))
+RunsLines o at used (text ∷ texts) s ran =
+    (IsNone used text × (texts ≡ []) × (ran ≡ ends (Stopped (refusal.Invalid (Text at))) s))
     ⊎ (((texts ≡ []) × (ran ≡ ends (Stopped refusal.NoMemory) s))
-    ⊎ ((used + length text ≤ INPUT_MAX) × (asked : Line) × IsLine text asked × (IsLater stamped asked → ⊥)
+    ⊎ ((used + length text ≤ INPUT_MAX) × (asked : Line) × IsLine text asked × (IsLater asked → ⊥)
     × (((r : Refusal) × (later : Script) × StopsBy asked s r later × (texts ≡ []) × (ran ≡ ends (Stopped r) later))
     ⊎ ((formats : Formats) × (reply : Reply) × (later : Script) × RunsLine asked s formats reply later
-    × Prints o (line_of_reply formats reply) (λ rest. RunsLines o (at + 1) (used + (length text + 1)) (stamped || gives_stamp asked) texts later rest) texts reply later ran))))
+    × Prints o (line_of_reply formats reply) (λ rest. RunsLines o (at + 1) (used + (length text + 1)) texts later rest) texts reply later ran))))
 
 -- of the refusals that a script replies, a fault of the disk and want of memory count
 abbrev pub counts : Refusal → Bool

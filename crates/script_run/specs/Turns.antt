@@ -1,5 +1,5 @@
 -- What a turn of a script does: a line more is run and printed, or the run ends.
-use Rattle.std.specs.Prelude.{◌≡◌, ◌⊎◌, ◌<◌, ◌≤◌, ◌+◌, ◌++◌, ◌∷◌, ◌||◌, [], ℕ, Bool, true, List, Option, None, Some, length, filter, IsTrue}
+use Rattle.std.specs.Prelude.{◌≡◌, ◌⊎◌, ◌<◌, ◌≤◌, ◌+◌, ◌++◌, ◌∷◌, [], ℕ, Bool, List, Option, None, Some, length, filter, IsTrue}
 use Rattle.failure.specs.Counts.{Rose}
 use Rattle.item.specs.declared.formats.Formats.{Formats}
 use Rattle.wt_code.specs.declared.refusals.Refusal.{Refusal}
@@ -20,7 +20,7 @@ use Rattle.script_run.specs.declared.script.Place.{Place}
 use Rattle.script_run.specs.declared.script.TheConstants.{INPUT_MAX}
 use Rattle.script_run.specs.Lines.{AreLines, GaveMore, Held, IsCut}
 use Rattle.script_run.specs.Runs.{IsAt}
-use Rattle.script_run.specs.Scripts.{IsLater, Outside, Ran, RunsLine, RunsLines, Script, counts, first_of, gives_stamp, listed, outside, refusals_in}
+use Rattle.script_run.specs.Scripts.{IsLater, Outside, Ran, RunsLine, RunsLines, Script, counts, first_of, listed, outside, refusals_in}
 
 -- the first fault of the disk or want of memory, with one reply more
 abbrev pub met_with : Option Refusal → Option Refusal → Option Refusal
@@ -28,24 +28,22 @@ met_with (Some earlier) refusal = Some earlier
 met_with None refusal = first_of (filter counts (listed refusal))
 
 -- the place behind a line of so many bytes
-pub record IsBehind (size : ℕ) (refusal : Option Refusal) (stamps : Bool) (place next : Place) : Type 0 where
+pub record IsBehind (size : ℕ) (refusal : Option Refusal) (place next : Place) : Type 0 where
   pub line : next.line ≡ place.line + 1
   pub used : next.used ≡ place.used + (size + 1)
-  pub stamped : next.stamped ≡ (place.stamped || stamps)
   pub met : next.met ≡ met_with place.met refusal
 
 -- a line that is run and printed whole: what is printed, the refusal in it, and what it leaves
-pub record LineDone (text : List ℕ) (used : ℕ) (stamped stamped' : Bool) (s : Script) (printed : List ℕ) (refusal : Option Refusal) (later : Script) : Type 0 where
+pub record LineDone (text : List ℕ) (used : ℕ) (s : Script) (printed : List ℕ) (refusal : Option Refusal) (later : Script) : Type 0 where
   pub room : used + length text ≤ INPUT_MAX
   pub asked : Line
   pub formats : Formats
   pub reply : Reply
   pub line : IsLine text asked
-  pub now : IsLater stamped asked → ⊥
+  pub now : IsLater asked → ⊥
   pub replies : RunsLine asked s formats reply later
   pub printed_is : printed ≡ line_of_reply formats reply ++ 10 ∷ []
   pub refusal_is : listed refusal ≡ refusals_in reply
-  pub stamped_is : stamped' ≡ (stamped || gives_stamp asked)
 
 -- of the output alone
 abbrev pub of_output : {K : Type 0} → SinkGhosts K → K → K → Outside
@@ -55,7 +53,7 @@ of_output sink out out' = record { input_failed = ⊥; input_ended = ⊥; output
 pub record IsPrinted {K : Type 0} (sink : SinkGhosts K) (out out' : K) (printed : Printed) (size : ℕ) (place next : Place) : Type 0 where
   pub took : Took (sink.written out) (sink.written out') printed.line.items
   pub kept : next.kept ≡ place.kept
-  pub behind : IsBehind size printed.refusal printed.stamps place next
+  pub behind : IsBehind size printed.refusal place next
 
 pub record IsCutOff {K : Type 0} (sink : SinkGhosts K) (out out' : K) (printed : Printed) (place next : Place) (end : End) : Type 0 where
   pub end_is : end ≡ OutputFailed
@@ -74,9 +72,9 @@ module _ {D : Type 0} (g : Ghosts D) (disk : D) (store : Store) (now : D) where
     pub printed : List ℕ
     pub refusal : Option Refusal
     pub later : Script
-    pub done : LineDone text place.used place.stamped next.stamped s printed refusal later
+    pub done : LineDone text place.used s printed refusal later
     pub took : Took (sink.written out) (sink.written out') printed
-    pub at : IsAt g disk next.stamped store now later
+    pub at : IsAt g disk store now later
     pub start : later.first ≡ s.first
     pub kept : later.kept ≡ next.kept
     pub line : next.line ≡ place.line + 1
@@ -86,11 +84,11 @@ module _ {D : Type 0} (g : Ghosts D) (disk : D) (store : Store) (now : D) where
   -- the run ends, with these lines or none
   pub record RunEnds {K : Type 0} (o : Outside) (sink : SinkGhosts K) (out out' : K) (texts : List (List ℕ)) (s : Script) (place next : Place) (end : End) : Type 0 where
     pub ran : Ran
-    pub runs : RunsLines o place.line place.used place.stamped texts s ran
+    pub runs : RunsLines o place.line place.used texts s ran
     pub end_is : end ≡ ran.end
     pub no_reply : ran.replies ≡ []
     pub took : Took (sink.written out) (sink.written out') ran.text
-    pub at : IsAt g disk true store now ran.last
+    pub at : IsAt g disk store now ran.last
     pub start : ran.last.first ≡ s.first
     pub met : next.met ≡ place.met
 

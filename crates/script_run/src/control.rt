@@ -1,5 +1,5 @@
 // Lines that are asked of the device: a checkpoint, a close, and an opening anew.
-ghost use Rattle.std.specs.Prelude.{◌≡◌, ◌||◌, ℕ, Bool, None, Some, false, slice_index_or, Ok, IfErr, IfSome, OnErr, OnOk, IsTrue};
+ghost use Rattle.std.specs.Prelude.{◌≡◌, ◌||◌, ℕ, None, Some, slice_index_or, Ok, IfErr, IfSome, OnErr, OnOk, IsTrue};
 ghost use Rattle.kv_model.specs.Decisions.{is_there};
 ghost use Rattle.call_steps.specs.declared.stage.Target.{Target as ATarget};
 ghost use Rattle.engine_world.specs.Stands.{Stands};
@@ -13,11 +13,10 @@ ghost use Rattle.script_text.specs.declared.line.Line.TheVariants.{Control as Co
 ghost use Rattle.script_text.specs.declared.line.Control.TheVariants.{Checkpoint as CheckpointLine, Close as CloseLine, Crash as CrashLine, Frames as FramesLine};
 ghost use Rattle.script_run.specs.Faults.{RepliesFault, TellsFaults};
 ghost use Rattle.script_run.specs.Runs.{IsAt, IsTold, RepliedAs, frames_after};
-ghost use Rattle.script_run.specs.Scripts.{Script, IsLaterControl};
+ghost use Rattle.script_run.specs.Scripts.{Script};
 
 use crate::kept::Kept;
 use crate::told::{Told, done, refused};
-use ckpt_step::calm_stays;
 use disk_model::Disk;
 use engine::{Evicting, first_found, is_evicting};
 use engine_store::{Frames, Store};
@@ -33,10 +32,9 @@ pub(crate) fn control<D: Disk>(
     kept: &mut Kept,
     asked: Control,
 ) -> Result<Told, Refusal>
-    requires now { IsLaterControl false asked → ⊥ }
     requires ready { IsReady store.old }
-    ensures replies { IsTrue (D.honest disk.old) → (first_disk : D) → (stamped : Bool) → (s : Script) → (IsLaterControl stamped asked → ⊥) → IsAt D.Disk first_disk stamped store.old disk.old s → s.kept ≡ kept.old
-        → RepliedAs D.Disk first_disk stamped (ControlLine asked) s store.new disk.new kept.new result }
+    ensures replies { IsTrue (D.honest disk.old) → (first_disk : D) → (s : Script) → IsAt D.Disk first_disk store.old disk.old s → s.kept ≡ kept.old
+        → RepliedAs D.Disk first_disk (ControlLine asked) s store.new disk.new kept.new result }
     ensures told { TellsFaults D.Disk store.old store.new disk.old disk.new (λ rose. RepliesFault result → rose) }
     ensures damage { IfErr result (λ r. (at want found : ℕ) → r ≡ Corrupt at want found → IsTrue (D.honest disk.old) → IsAtFault (D.seen disk.new) at want found) }
     ensures frames { count_of store.new.frames ≡ frames_after asked result (count_of store.old.frames) }
@@ -58,7 +56,7 @@ fn checkpoint<D: Disk>(
     evicting: &[Option<Evicting>],
 ) -> Told
     requires ready { IsReady store.old }
-    ensures replies { IsTrue (D.honest disk.old) → (first_disk : D) → (s : Script) → IsAt D.Disk first_disk false store.old disk.old s → s.kept.evicting ≡ evicting.now → IsTold D.Disk first_disk false (ControlLine CheckpointLine) s store.new disk.new s.kept result }
+    ensures replies { IsTrue (D.honest disk.old) → (first_disk : D) → (s : Script) → IsAt D.Disk first_disk store.old disk.old s → s.kept.evicting ≡ evicting.now → IsTold D.Disk first_disk (ControlLine CheckpointLine) s store.new disk.new s.kept result }
     ensures told { TellsFaults D.Disk store.old store.new disk.old disk.new (λ rose. RepliesFault (Ok result) → rose) }
     ensures frames { store.new.frames ≡ store.old.frames }
     ensures ready { IsReady store.new }
@@ -99,8 +97,8 @@ fn close<D: Disk>(
     kept: &mut Kept,
 ) -> Result<Told, Refusal>
     requires ready { IsReady store.old }
-    ensures replies { IsTrue (D.honest disk.old) → (first_disk : D) → (s : Script) → IsAt D.Disk first_disk false store.old disk.old s → s.kept ≡ kept.old
-        → RepliedAs D.Disk first_disk false (ControlLine CloseLine) s store.new disk.new kept.new result }
+    ensures replies { IsTrue (D.honest disk.old) → (first_disk : D) → (s : Script) → IsAt D.Disk first_disk store.old disk.old s → s.kept ≡ kept.old
+        → RepliedAs D.Disk first_disk (ControlLine CloseLine) s store.new disk.new kept.new result }
     ensures told { TellsFaults D.Disk store.old store.new disk.old disk.new (λ rose. RepliesFault result → rose) }
     ensures damage { IfErr result (λ r. (at want found : ℕ) → r ≡ Corrupt at want found → IsTrue (D.honest disk.old) → IsAtFault (D.seen disk.new) at want found) }
     ensures frames { count_of store.new.frames ≡ count_of store.old.frames }
@@ -128,7 +126,7 @@ fn reopen_as_it_was<D: Disk>(
     kept: &mut Kept,
 ) -> Result<Told, Refusal>
     requires ready { IsReady store.old }
-    ensures replies { IsTrue (D.honest disk.old) → (first_disk : D) → (stamped : Bool) → (s : Script) → IsAt D.Disk first_disk stamped store.old disk.old s → RepliedAs D.Disk first_disk stamped (ControlLine CrashLine) s store.new disk.new kept.new result }
+    ensures replies { IsTrue (D.honest disk.old) → (first_disk : D) → (s : Script) → IsAt D.Disk first_disk store.old disk.old s → RepliedAs D.Disk first_disk (ControlLine CrashLine) s store.new disk.new kept.new result }
     ensures frames { count_of store.new.frames ≡ count_of store.old.frames }
     ensures told { TellsFaults D.Disk store.old store.new disk.old disk.new (λ rose. RepliesFault result → rose) }
     ensures damage { IfErr result (λ r. (at want found : ℕ) → r ≡ Corrupt at want found → IsTrue (D.honest disk.old) → IsAtFault (D.seen disk.new) at want found) }
@@ -148,7 +146,7 @@ fn reopen<D: Disk>(
     frames: u32,
 ) -> Result<Told, Refusal>
     requires ready { IsReady store.old }
-    ensures replies { IsTrue (D.honest disk.old) → (first_disk : D) → (stamped : Bool) → (s : Script) → IsAt D.Disk first_disk stamped store.old disk.old s → RepliedAs D.Disk first_disk stamped (ControlLine (FramesLine frames)) s store.new disk.new kept.new result }
+    ensures replies { IsTrue (D.honest disk.old) → (first_disk : D) → (s : Script) → IsAt D.Disk first_disk store.old disk.old s → RepliedAs D.Disk first_disk (ControlLine (FramesLine frames)) s store.new disk.new kept.new result }
     ensures frames { OnOk result (store.new.frames ≡ Frames.Firm frames) }
     ensures kept { OnErr result (store.new.frames ≡ store.old.frames) }
     ensures told { TellsFaults D.Disk store.old store.new disk.old disk.new (λ rose. RepliesFault result → rose) }
@@ -159,7 +157,6 @@ fn reopen<D: Disk>(
     match store.reopen(alloc, disk, Frames::Firm(frames)) {
         Err(refusal) => Err(refusal),
         Ok(()) => {
-            calm_stays();
             store.engine.actors();
             *kept = Kept::none();
             Ok(done())

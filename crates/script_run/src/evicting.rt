@@ -1,5 +1,5 @@
 // Lines that evict the leaf of a key, whole or by steps.
-ghost use Rattle.std.specs.Prelude.{◌≡◌, ◌||◌, ℕ, Bool, List, None, Some, Ok, true, IfSome, IsTrue, slice_index_or};
+ghost use Rattle.std.specs.Prelude.{◌≡◌, ℕ, List, None, Some, Ok, true, IfSome, IsTrue, slice_index_or};
 ghost use Rattle.failure.specs.Counts.{Rose};
 ghost use Rattle.disk_model.specs.Crash.{SameDisk};
 ghost use Rattle.wt_calls.specs.declared.call.Call.TheVariants.{System as SystemOf};
@@ -21,7 +21,7 @@ ghost use Rattle.script_text.specs.declared.line.Line.TheVariants.{Whole as Whol
 ghost use Rattle.script_text.specs.declared.replies.Reply.TheVariants.{Answered};
 ghost use Rattle.script_run.specs.Faults.{RepliesFault, TellsFaults};
 ghost use Rattle.script_run.specs.Runs.{IsAt, IsCallLine, IsTold};
-ghost use Rattle.script_run.specs.Scripts.{IsLaterCall, IsUnbuilt, Script, StartsEvicting, actor_in, actor_of, caller, eviction_of, gives_stamp, plain, system_in, with_evicting};
+ghost use Rattle.script_run.specs.Scripts.{IsLaterCall, IsUnbuilt, Script, StartsEvicting, actor_in, actor_of, caller, eviction_of, plain, system_in, with_evicting};
 
 use crate::kept::Kept;
 use crate::one_line::formats_in;
@@ -46,8 +46,8 @@ pub(crate) fn evict<D: Disk>(
     requires now { IsLaterCall call → ⊥ }
     requires evicts { IsUnbuilt call }
     requires ready { IsReady store.old }
-    ensures replies { IsTrue (D.honest disk.old) → (first_disk : D) → (stamped : Bool) → (s : Script) → IsAt D.Disk first_disk stamped store.old disk.old s → s.kept ≡ kept.now → eviction_of (caller call) s.kept.evicting ≡ None
-        → IsTold D.Disk first_disk stamped (WholeLine call) s store.new disk.new s.kept result }
+    ensures replies { IsTrue (D.honest disk.old) → (first_disk : D) → (s : Script) → IsAt D.Disk first_disk store.old disk.old s → s.kept ≡ kept.now → eviction_of (caller call) s.kept.evicting ≡ None
+        → IsTold D.Disk first_disk (WholeLine call) s store.new disk.new s.kept result }
     ensures told { TellsFaults D.Disk store.old store.new disk.old disk.new (λ rose. RepliesFault (Ok result) → rose) }
     ensures ready { IsReady store.new }
     ensures disk { SameDisk D.Disk disk.old disk.new }
@@ -132,8 +132,8 @@ pub(crate) fn start_evicting<D: Disk>(
     requires now { IsLaterCall call → ⊥ }
     requires evicts { IsUnbuilt call }
     requires ready { IsReady store.old }
-    ensures replies { IsTrue (D.honest disk.old) → (first_disk : D) → (stamped : Bool) → (s : Script) → IsAt D.Disk first_disk stamped store.old disk.old s → s.kept ≡ kept.old → eviction_of (caller call) s.kept.evicting ≡ None
-        → IsTold D.Disk first_disk stamped (StartLine call) s store.new disk.new kept.new result }
+    ensures replies { IsTrue (D.honest disk.old) → (first_disk : D) → (s : Script) → IsAt D.Disk first_disk store.old disk.old s → s.kept ≡ kept.old → eviction_of (caller call) s.kept.evicting ≡ None
+        → IsTold D.Disk first_disk (StartLine call) s store.new disk.new kept.new result }
     ensures told { TellsFaults D.Disk store.old store.new disk.old disk.new (λ rose. RepliesFault (Ok result) → rose) }
     ensures ready { IsReady store.new }
     ensures disk { SameDisk D.Disk disk.old disk.new }
@@ -181,8 +181,8 @@ pub(crate) fn turn_evicting<D: Disk>(
 ) -> Told
     requires now { IsCallLine line }
     requires ready { IsReady store.old }
-    ensures replies { IsTrue (D.honest disk.old) → (first_disk : D) → (stamped : Bool) → (s : Script) → IsAt D.Disk first_disk stamped store.old disk.old s → s.kept ≡ kept.old → system_in (actor_of line) ≡ Some number → is_there (evicting_by s.kept.evicting number) ≡ true
-        → IsTold D.Disk first_disk (stamped || gives_stamp line) line s store.new disk.new kept.new result }
+    ensures replies { IsTrue (D.honest disk.old) → (first_disk : D) → (s : Script) → IsAt D.Disk first_disk store.old disk.old s → s.kept ≡ kept.old → system_in (actor_of line) ≡ Some number → is_there (evicting_by s.kept.evicting number) ≡ true
+        → IsTold D.Disk first_disk line s store.new disk.new kept.new result }
     ensures told { TellsFaults D.Disk store.old store.new disk.old disk.new (λ rose. RepliesFault (Ok result) → rose) }
     ensures ready { IsReady store.new }
     ensures disk { SameDisk D.Disk disk.old disk.new }
@@ -203,8 +203,8 @@ fn step_evicting<D: Disk>(
     number: u32,
 ) -> Told
     requires ready { IsReady store.old }
-    ensures replies { IsTrue (D.honest disk.old) → (first_disk : D) → (stamped : Bool) → (s : Script) → IsAt D.Disk first_disk stamped store.old disk.old s → s.kept ≡ kept.old → (who : AnActor) → actor_in who ≡ by.System number → is_there (evicting_by s.kept.evicting number) ≡ true
-        → IsTold D.Disk first_disk stamped (StepLine who) s store.new disk.new kept.new result }
+    ensures replies { IsTrue (D.honest disk.old) → (first_disk : D) → (s : Script) → IsAt D.Disk first_disk store.old disk.old s → s.kept ≡ kept.old → (who : AnActor) → actor_in who ≡ by.System number → is_there (evicting_by s.kept.evicting number) ≡ true
+        → IsTold D.Disk first_disk (StepLine who) s store.new disk.new kept.new result }
     ensures told { TellsFaults D.Disk store.old store.new disk.old disk.new (λ rose. RepliesFault (Ok result) → rose) }
     ensures ready { IsReady store.new }
     ensures disk { SameDisk D.Disk disk.old disk.new }
@@ -230,8 +230,8 @@ fn finish_evicting<D: Disk>(
     number: u32,
 ) -> Told
     requires ready { IsReady store.old }
-    ensures replies { IsTrue (D.honest disk.old) → (first_disk : D) → (stamped : Bool) → (s : Script) → IsAt D.Disk first_disk stamped store.old disk.old s → s.kept ≡ kept.old → (who : AnActor) → actor_in who ≡ by.System number → is_there (evicting_by s.kept.evicting number) ≡ true
-        → IsTold D.Disk first_disk stamped (FinishLine who) s store.new disk.new kept.new result }
+    ensures replies { IsTrue (D.honest disk.old) → (first_disk : D) → (s : Script) → IsAt D.Disk first_disk store.old disk.old s → s.kept ≡ kept.old → (who : AnActor) → actor_in who ≡ by.System number → is_there (evicting_by s.kept.evicting number) ≡ true
+        → IsTold D.Disk first_disk (FinishLine who) s store.new disk.new kept.new result }
     ensures told { TellsFaults D.Disk store.old store.new disk.old disk.new (λ rose. RepliesFault (Ok result) → rose) }
     ensures ready { IsReady store.new }
     ensures disk { SameDisk D.Disk disk.old disk.new }

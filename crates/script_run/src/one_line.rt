@@ -1,5 +1,5 @@
 // One line of a script: what it asks for is made, and the line that tells its reply.
-ghost use Rattle.std.specs.Prelude.{◌≡◌, ◌⊎◌, ◌↔◌, ◌<◌, ◌||◌, ◌++◌, ◌∷◌, [], ℕ, Bool, List, None, Some, Ok, false, true, length, IsTrue, IfOk, IfErr, IfSome, OnErr};
+ghost use Rattle.std.specs.Prelude.{◌≡◌, ◌⊎◌, ◌↔◌, ◌<◌, ◌++◌, ◌∷◌, [], ℕ, List, None, Some, Ok, true, length, IsTrue, IfOk, IfErr, IfSome, OnErr};
 ghost use Rattle.disk_model.specs.Crash.{SameDisk};
 ghost use Rattle.engine_store.specs.Opened.{IsAtFault, IsReady};
 ghost use Rattle.wt_code.specs.declared.refusals.Refusal.TheVariants.{Corrupt};
@@ -13,23 +13,22 @@ ghost use Rattle.engine.specs.Turning.{evicting_by};
 ghost use Rattle.engine_store.specs.Calls.{CallKeeps, MayAnswerSo, StaysTold, TellsSo};
 ghost use Rattle.script_run.specs.Faults.{RepliesFault, TellsFaults};
 ghost use Rattle.script_run.specs.Runs.{IsAnswerTo, IsAnswered, IsAt, IsBegun, IsCallLine, IsEnded, IsGone, IsKnown, IsNoSession, IsOfActor, IsOfKnown, IsReplied, IsTaken, IsThere, IsTold, LineMade, OpensAs, PrintsFault, RepliedAs, RepliesSo, Standing, StandingIn, StandsAt, StopsDamaged};
-ghost use Rattle.script_run.specs.Scripts.{Script, IsLater, IsUnbuilt, IsLaterControl, IsLaterCall, IsMade, actor_in, actor_of, call_stamps, caller, eviction_of, formats_in, gives_stamp, in_script, kept_after, kept_formats, kept_more, listed, refusals_in, system_in};
+ghost use Rattle.script_run.specs.Scripts.{Script, IsLater, IsUnbuilt, IsLaterCall, IsMade, actor_in, actor_of, caller, eviction_of, formats_in, in_script, kept_after, kept_formats, kept_more, listed, refusals_in, system_in};
 
 use crate::control::control;
 use crate::evicting::{evict, start_evicting, turn_evicting};
 use crate::kept::Kept;
 use crate::told::{PLAIN, Told, refused};
-use ckpt_step::calm_stays;
 use disk_model::Disk;
 use engine::{Actor, Evicting, Local, Step, is_evicting};
 use engine_store::Store;
 use failure::NoMemory;
 use item::{Formats, Item};
 use script_text::{
-    Actor as LineActor, Control, Line, Reply, as_stored, line_of_answer, parse_line, table_of_items,
+    Actor as LineActor, Line, Reply, as_stored, line_of_answer, parse_line, table_of_items,
 };
 use std::alloc::Global;
-use wt_calls::{Call, SessionCall, SystemCall};
+use wt_calls::{Call, SystemCall};
 use wt_code::{Answer, Refusal};
 
 /// What is printed of a line.
@@ -39,8 +38,6 @@ pub struct Printed {
     pub line: Vec<u8>,
     /// The refusal that the reply tells, if it does.
     pub refusal: Option<Refusal>,
-    /// Whether the text commits with a stamp.
-    pub stamps: bool,
 }
 
 /// Why nothing is printed of a line, which ends its script.
@@ -54,19 +51,17 @@ pub enum Stop {
     Opening(Refusal),
 }
 
-/// Runs a line, and gives what is printed of it. A checkpoint and a close are of a later stage where
-/// a line before committed with a stamp (`stamped`).
+/// Runs a line, and gives what is printed of it.
 /// `kept` has what is kept of what lines before started: at first nothing (`Kept::none`).
 pub fn run_line<D: Disk>(
     alloc: Global,
     store: &mut Store,
     disk: &mut D,
     kept: &mut Kept,
-    stamped: bool,
     text: &[u8],
 ) -> Result<Printed, Stop>
     requires ready { IsReady store.old }
-    ensures made { IsTrue (D.honest disk.old) → (first_disk : D) → (s : Script) → IsAt D.Disk first_disk stamped store.old disk.old s → s.kept ≡ kept.old → LineMade D.Disk first_disk text.now stamped s store.new disk.new kept.new result }
+    ensures made { IsTrue (D.honest disk.old) → (first_disk : D) → (s : Script) → IsAt D.Disk first_disk store.old disk.old s → s.kept ≡ kept.old → LineMade D.Disk first_disk text.now s store.new disk.new kept.new result }
     ensures told { TellsFaults D.Disk store.old store.new disk.old disk.new (λ rose. PrintsFault result → rose) }
     ensures damage { IsTrue (D.honest disk.old) → (at want found : ℕ) → StopsDamaged at want found result → IsAtFault (D.seen disk.new) at want found }
     ensures ready { IsReady store.new }
@@ -77,20 +72,18 @@ pub fn run_line<D: Disk>(
         Ok(None) => return Err(Stop::NoLine),
         Ok(Some(line)) => line,
     };
-    if is_later(&line, stamped) {
+    if is_later(&line) {
         return Err(Stop::NoLine);
     }
-    let stamps = gives_stamp(&line);
     match reply_to(alloc, store, disk, kept, line) {
         Err(refusal) => Err(Stop::Opening(refusal)),
-        Ok(told) => print_of(alloc, &told, stamps),
+        Ok(told) => print_of(alloc, &told),
     }
 }
 
-fn print_of(alloc: Global, told: &Told, stamps: bool) -> Result<Printed, Stop>
+fn print_of(alloc: Global, told: &Told) -> Result<Printed, Stop>
     ensures line { IfOk result (λ p. p.line.items ≡ line_of_reply told.now.formats told.now.reply ++ 10 ∷ []) }
     ensures refusal { IfOk result (λ p. listed p.refusal ≡ refusals_in told.now.reply) }
-    ensures stamps { IfOk result (λ p. p.stamps ≡ stamps) }
     ensures short { IfErr result (λ e. e ≡ Stop.NoMemory) }
 {
     match line_of(alloc, told) {
@@ -98,7 +91,6 @@ fn print_of(alloc: Global, told: &Told, stamps: bool) -> Result<Printed, Stop>
         Ok(line) => Ok(Printed {
             line,
             refusal: refusal_in(&told.reply),
-            stamps,
         }),
     }
 }
@@ -161,47 +153,15 @@ fn is_unbuilt(call: &Call) -> bool
     }
 }
 
-fn is_later_control(asked: &Control, stamped: bool) -> bool
-    ensures { IsTrue result ↔ IsLaterControl stamped asked.now }
-{
-    match asked {
-        Control::Checkpoint => stamped,
-        Control::Close => stamped,
-        Control::Crash | Control::Frames(_) => false,
-    }
-}
-
-fn is_later(line: &Line, stamped: bool) -> bool
-    ensures { IsTrue result ↔ IsLater stamped line.now }
+fn is_later(line: &Line) -> bool
+    ensures { IsTrue result ↔ IsLater line.now }
 {
     match line {
         Line::Whole(call) => is_later_call(call),
         Line::Start(call) => is_later_call(call),
         Line::Step(_) => false,
         Line::Finish(_) => false,
-        Line::Control(asked) => is_later_control(asked, stamped),
-    }
-}
-
-fn call_stamps(call: &Call) -> bool
-    ensures { result ≡ call_stamps call.now }
-{
-    match call {
-        Call::Session(_, SessionCall::Commit { commit, durable }) => {
-            commit.is_some() || durable.is_some()
-        }
-        _ => false,
-    }
-}
-
-// Whether the text commits with a stamp.
-fn gives_stamp(line: &Line) -> bool
-    ensures { result ≡ gives_stamp line.now }
-{
-    match line {
-        Line::Whole(call) => call_stamps(call),
-        Line::Start(call) => call_stamps(call),
-        _ => false,
+        Line::Control(_) => false,
     }
 }
 
@@ -213,11 +173,11 @@ fn reply_to<D: Disk>(
     kept: &mut Kept,
     line: Line,
 ) -> Result<Told, Refusal>
-    requires now { IsLater false line → ⊥ }
+    requires now { IsLater line → ⊥ }
     requires actor { IsOfKnown line }
     requires ready { IsReady store.old }
-    ensures replies { IsTrue (D.honest disk.old) → (first_disk : D) → (stamped : Bool) → (s : Script) → (IsLater stamped line → ⊥) → IsAt D.Disk first_disk stamped store.old disk.old s → s.kept ≡ kept.old
-        → RepliedAs D.Disk first_disk (stamped || gives_stamp line) line s store.new disk.new kept.new result }
+    ensures replies { IsTrue (D.honest disk.old) → (first_disk : D) → (s : Script) → IsAt D.Disk first_disk store.old disk.old s → s.kept ≡ kept.old
+        → RepliedAs D.Disk first_disk line s store.new disk.new kept.new result }
     ensures told { TellsFaults D.Disk store.old store.new disk.old disk.new (λ rose. RepliesFault result → rose) }
     ensures damage { IfErr result (λ r. (at want found : ℕ) → r ≡ Corrupt at want found → IsTrue (D.honest disk.old) → IsAtFault (D.seen disk.new) at want found) }
     ensures ready { IsReady store.new }
@@ -240,8 +200,8 @@ fn reply_to_call<D: Disk>(
     requires now { IsCallLine line }
     requires actor { IsOfKnown line }
     requires ready { IsReady store.old }
-    ensures replies { IsTrue (D.honest disk.old) → (first_disk : D) → (stamped : Bool) → (s : Script) → IsAt D.Disk first_disk stamped store.old disk.old s → s.kept ≡ kept.old
-        → IsTold D.Disk first_disk (stamped || gives_stamp line) line s store.new disk.new kept.new result }
+    ensures replies { IsTrue (D.honest disk.old) → (first_disk : D) → (s : Script) → IsAt D.Disk first_disk store.old disk.old s → s.kept ≡ kept.old
+        → IsTold D.Disk first_disk line s store.new disk.new kept.new result }
     ensures told { TellsFaults D.Disk store.old store.new disk.old disk.new (λ rose. RepliesFault (Ok result) → rose) }
     ensures ready { IsReady store.new }
     ensures disk { SameDisk D.Disk disk.old disk.new }
@@ -294,8 +254,8 @@ fn reply_to_free<D: Disk>(
     requires now { IsCallLine line }
     requires actor { IsOfKnown line }
     requires ready { IsReady store.old }
-    ensures replies { IsTrue (D.honest disk.old) → (first_disk : D) → (stamped : Bool) → (s : Script) → IsAt D.Disk first_disk stamped store.old disk.old s → s.kept ≡ kept.old → eviction_of (actor_of line) s.kept.evicting ≡ None
-        → IsTold D.Disk first_disk (stamped || gives_stamp line) line s store.new disk.new kept.new result }
+    ensures replies { IsTrue (D.honest disk.old) → (first_disk : D) → (s : Script) → IsAt D.Disk first_disk store.old disk.old s → s.kept ≡ kept.old → eviction_of (actor_of line) s.kept.evicting ≡ None
+        → IsTold D.Disk first_disk line s store.new disk.new kept.new result }
     ensures told { TellsFaults D.Disk store.old store.new disk.old disk.new (λ rose. RepliesFault (Ok result) → rose) }
     ensures ready { IsReady store.new }
     ensures disk { SameDisk D.Disk disk.old disk.new }
@@ -318,8 +278,8 @@ fn reply_to_whole<D: Disk>(
     requires now { IsLaterCall call → ⊥ }
     requires actor { IsKnown (caller call) }
     requires ready { IsReady store.old }
-    ensures replies { IsTrue (D.honest disk.old) → (first_disk : D) → (stamped : Bool) → (s : Script) → IsAt D.Disk first_disk stamped store.old disk.old s → s.kept ≡ kept.old → eviction_of (caller call) s.kept.evicting ≡ None
-        → IsTold D.Disk first_disk (stamped || call_stamps call) (WholeLine call) s store.new disk.new kept.new result }
+    ensures replies { IsTrue (D.honest disk.old) → (first_disk : D) → (s : Script) → IsAt D.Disk first_disk store.old disk.old s → s.kept ≡ kept.old → eviction_of (caller call) s.kept.evicting ≡ None
+        → IsTold D.Disk first_disk (WholeLine call) s store.new disk.new kept.new result }
     ensures told { TellsFaults D.Disk store.old store.new disk.old disk.new (λ rose. RepliesFault (Ok result) → rose) }
     ensures ready { IsReady store.new }
     ensures disk { SameDisk D.Disk disk.old disk.new }
@@ -342,8 +302,8 @@ fn reply_to_start<D: Disk>(
     requires now { IsLaterCall call → ⊥ }
     requires actor { IsKnown (caller call) }
     requires ready { IsReady store.old }
-    ensures replies { IsTrue (D.honest disk.old) → (first_disk : D) → (stamped : Bool) → (s : Script) → IsAt D.Disk first_disk stamped store.old disk.old s → s.kept ≡ kept.old → eviction_of (caller call) s.kept.evicting ≡ None
-        → IsTold D.Disk first_disk (stamped || call_stamps call) (StartLine call) s store.new disk.new kept.new result }
+    ensures replies { IsTrue (D.honest disk.old) → (first_disk : D) → (s : Script) → IsAt D.Disk first_disk store.old disk.old s → s.kept ≡ kept.old → eviction_of (caller call) s.kept.evicting ≡ None
+        → IsTold D.Disk first_disk (StartLine call) s store.new disk.new kept.new result }
     ensures told { TellsFaults D.Disk store.old store.new disk.old disk.new (λ rose. RepliesFault (Ok result) → rose) }
     ensures ready { IsReady store.new }
     ensures disk { SameDisk D.Disk disk.old disk.new }
@@ -366,13 +326,12 @@ fn reply_to_actor<D: Disk>(
     requires now { IsOfActor line }
     requires actor { IsOfKnown line }
     requires ready { IsReady store.old }
-    ensures replies { IsTrue (D.honest disk.old) → (first_disk : D) → (stamped : Bool) → (s : Script) → IsAt D.Disk first_disk stamped store.old disk.old s → s.kept ≡ kept.old → eviction_of (actor_of line) s.kept.evicting ≡ None
-        → IsTold D.Disk first_disk (stamped || gives_stamp line) line s store.new disk.new kept.new result }
+    ensures replies { IsTrue (D.honest disk.old) → (first_disk : D) → (s : Script) → IsAt D.Disk first_disk store.old disk.old s → s.kept ≡ kept.old → eviction_of (actor_of line) s.kept.evicting ≡ None
+        → IsTold D.Disk first_disk line s store.new disk.new kept.new result }
     ensures told { TellsFaults D.Disk store.old store.new disk.old disk.new (λ rose. RepliesFault (Ok result) → rose) }
     ensures ready { IsReady store.new }
     ensures disk { SameDisk D.Disk disk.old disk.new }
 {
-    calm_stays();
     let told = reply_of(alloc, store, disk, kept, line);
     store.make_room_beside(alloc, disk, &kept.evicting);
     told

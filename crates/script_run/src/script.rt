@@ -1,5 +1,5 @@
 // Whole scripts: the lines of an input, one after the other.
-ghost use Rattle.std.specs.Prelude.{◌≡◌, ◌≤◌, ◌+◌, ◌||◌, [], ℕ, Bool, false, length, filter, IsTrue, IfNone, IfSome};
+ghost use Rattle.std.specs.Prelude.{◌≡◌, ◌≤◌, ◌+◌, [], ℕ, length, filter, IsTrue, IfNone, IfSome};
 ghost use Rattle.failure.specs.Counts.{Rose};
 ghost use Rattle.disk_model.specs.Crash.{SameDisk};
 ghost use Rattle.engine_store.specs.Full.{count_of};
@@ -7,7 +7,6 @@ ghost use Rattle.engine_store.specs.Opened.{IsAtFault, IsReady};
 ghost use Rattle.wt_io.specs.Streams.{AtEnd};
 ghost use Rattle.wt_code.specs.declared.refusals.Refusal.TheVariants.{Corrupt};
 ghost use Rattle.engine_world.specs.Worlds.{World};
-ghost use Rattle.ckpt_step.specs.Calm.{IsCalm};
 ghost use Rattle.engine_store.specs.Held.{IsHeld};
 ghost use Rattle.script_run.specs.Faults.{TellsFaults};
 ghost use Rattle.script_run.specs.Runs.{IsAt, IsRunOver, MetFault};
@@ -56,8 +55,8 @@ pub const INPUT_MAX: u64 = 1 << 30;
 /// (`engine_store::Store::make_room`). A refusal that a line replies does not end the script. A line that is
 /// none, or is of a later stage, stops it by `Invalid::Text` with the number of the line, counted
 /// from 1, and is not run; an opening that is refused, want of memory and a stream that fails end it
-/// too. Once a line has committed with a stamp, a checkpoint and a close are of a later stage. A call
-/// whose leaf finds each frame of the store with one that may not go is refused as `CacheFull`.
+/// too. A call whose leaf finds each frame of the store with one that may not go is refused as
+/// `CacheFull`.
 ///
 /// A line has 65,536 bytes at most without its newline, an input `INPUT_MAX`, and there are 64
 /// sessions at most, opened at their first use. An eviction that is not finished at the end is
@@ -70,7 +69,7 @@ pub fn run_script<D: Disk, S: Source, K: Sink>(
     out: &mut K,
 ) -> ScriptRun
     requires ready { IsReady store.old }
-    ensures run { IsTrue (D.honest disk.old) → (w : World) → IsHeld D.Disk disk.old store.old disk.old w w.machine.completed [] → IsCalm w → IsRunOver D.Disk S.Source K.Sink input.old input.new out.old out.new w disk.old disk.new (count_of store.old.frames) store.new result }
+    ensures run { IsTrue (D.honest disk.old) → (w : World) → IsHeld D.Disk disk.old store.old disk.old w w.machine.completed [] → IsRunOver D.Disk S.Source K.Sink input.old input.new out.old out.new w disk.old disk.new (count_of store.old.frames) store.new result }
     ensures input { result.end ≡ InputFails → Rose (S.fault_count input.old) (S.fault_count input.new) }
     ensures output { result.end ≡ OutputFails → Rose (K.fault_count out.old) (K.fault_count out.new) }
     ensures fault { length store.old.engine.sessions ≡ 0 → MetFault result → Rose (D.faults disk.old) (D.faults disk.new) }
@@ -105,8 +104,6 @@ struct Place {
     line: u64,
     // The bytes of the lines before it, with their newlines.
     used: u64,
-    // Whether the text of a line before it commits with a stamp.
-    stamped: bool,
     // What is kept of what is started.
     kept: Kept,
     // The first fault of the disk or want of memory that a line replied.
@@ -117,14 +114,12 @@ impl Place {
     fn first() -> Place
         ensures line { result.line ≡ 1 }
         ensures used { result.used ≡ 0 }
-        ensures stamped { result.stamped ≡ false }
         ensures kept { result.kept ≡ nothing_kept }
         ensures met { result.met ≡ None }
     {
         Place {
             line: 1,
             used: 0,
-            stamped: false,
             kept: Kept::none(),
             met: None,
         }
@@ -134,12 +129,11 @@ impl Place {
     fn pass(&mut self, size: usize, printed: &Printed)
         requires line { self.old.line ≤ self.old.used + 1 }
         requires room { self.old.used + size ≤ INPUT_MAX }
-        ensures behind { IsBehind size printed.now.refusal printed.now.stamps self.old self.new }
+        ensures behind { IsBehind size printed.now.refusal self.old self.new }
         ensures kept { self.new.kept ≡ self.old.kept }
     {
         self.line += 1;
         self.used += size as u64 + 1;
-        self.stamped = self.stamped || printed.stamps;
         self.met = met_with(self.met, printed.refusal);
     }
 }
@@ -178,7 +172,7 @@ fn turn<D: Disk, S: Source, K: Sink>(
     requires line { place.old.line ≤ place.old.used + 1 }
     requires used { place.old.used ≤ INPUT_MAX + 1 }
     requires ready { IsReady store.old }
-    ensures made { IsTrue (D.honest disk.old) → (first_disk : D) → (s : Script) → IsAt D.Disk first_disk place.old.stamped store.old disk.old s → s.kept ≡ place.old.kept
+    ensures made { IsTrue (D.honest disk.old) → (first_disk : D) → (s : Script) → IsAt D.Disk first_disk store.old disk.old s → s.kept ≡ place.old.kept
         → TurnMade D.Disk first_disk store.new disk.new S.Source K.Sink input.old input.new out.old out.new lines.old lines.new place.old place.new s result }
     ensures moved { IfNone result (HasMoved place.old place.new) }
     ensures end { IfNone result (IsTrue lines.new.ended → AtEnd (S.left input.new)) }
@@ -212,7 +206,7 @@ fn run_and_print<D: Disk, K: Sink>(
     requires line { place.old.line ≤ place.old.used + 1 }
     requires used { place.old.used ≤ INPUT_MAX + 1 }
     requires ready { IsReady store.old }
-    ensures made { IsTrue (D.honest disk.old) → (first_disk : D) → (s : Script) → IsAt D.Disk first_disk place.old.stamped store.old disk.old s → s.kept ≡ place.old.kept
+    ensures made { IsTrue (D.honest disk.old) → (first_disk : D) → (s : Script) → IsAt D.Disk first_disk store.old disk.old s → s.kept ≡ place.old.kept
         → LineTurn D.Disk first_disk store.new disk.new K.Sink out.old out.new text.now s place.old place.new result }
     ensures moved { IfNone result (HasMoved place.old place.new) }
     ensures early { IfSome result (λ end. (end ≡ End.Through → ⊥) × (end ≡ InputFails → ⊥)) }
@@ -227,7 +221,7 @@ fn run_and_print<D: Disk, K: Sink>(
     if place.used + text.len() as u64 > INPUT_MAX {
         return Some(none);
     }
-    match run_line(alloc, store, disk, &mut place.kept, place.stamped, text) {
+    match run_line(alloc, store, disk, &mut place.kept, text) {
         Err(Stop::NoLine) => Some(none),
         Err(Stop::NoMemory) => Some(End::Stopped(Refusal::NoMemory)),
         Err(Stop::Opening(refusal)) => Some(End::Stopped(refusal)),

@@ -171,6 +171,7 @@ fn stories_come_out_as_written(rt: HostRuntime) {
     check_stories(&rt, alloc, COMMITS);
     check_stories(&rt, alloc, ROLLBACKS);
     check_stories(&rt, alloc, DEVICES);
+    check_stories(&rt, alloc, STAMPED);
     check_stories(&rt, alloc, EVICTIONS);
     check_stories(&rt, alloc, BY_STEPS);
 }
@@ -354,14 +355,6 @@ fn a_stream_that_fails_ends_the_script(rt: HostRuntime) {
     let text = tables(&rt, alloc, 300);
     check_reads(&rt, alloc, text.as_str());
     check_writes(&rt, alloc, text.as_str());
-}
-
-#[test]
-fn a_stamp_keeps_a_checkpoint_and_a_close_away(rt: HostRuntime) {
-    let alloc = rt.alloc();
-    for row in STAMPED {
-        check(&rt, alloc, row.text, row.told);
-    }
 }
 
 fn check_failing(rt: &impl Abort, alloc: Global, row: &Failing<'_>) {

@@ -2,8 +2,8 @@
 // 16,384 bytes: its block has five units, and an inner page's has one.
 ghost use Rattle.std.specs.Prelude.{◌≤◌, [], ◌∷◌, ℕ, List, length, IfOk, OnOk};
 ghost use Rattle.row_page.specs.Rows.{Row, RowFits, key_most, value_of};
-ghost use Rattle.leaf_capture.specs.Cells.{cell_change, cell_version};
-ghost use Rattle.leaf_capture.specs.Capture.{ChainsFit};
+ghost use Rattle.reconcile.specs.Cells.{cell_change, cell_version};
+ghost use Rattle.reconcile.specs.Capture.{ChainsFit};
 ghost use Rattle.leaf_rows.specs.Rows.{AreFit};
 ghost use Rattle.reconcile.specs.Images.{AreImages};
 

@@ -20,7 +20,6 @@ use Rattle.kv_model.specs.Decisions as kv
 use Rattle.kv_model.specs.Decisions.{Outcome, Demand, Anything, Vacant, Occupied, unmet, Request, BeginCall, CommitCall, EndCall, FindToWrite, CreateCall, WriteAnswer, judged, decision, while_up, checked, ruled, refused, in_state, running_session, is_on_page, commit_decision, create_decision, same_formats, id_drawn, is_name, write_checks}
 use Rattle.kv_model.specs.Told.{Tells}
 use Rattle.kv_model.specs.Calls.{Call, Begin, PutKey, Commit, Create, Around, Judged, Settled, AtPlace, IsHeldUp, SessionAnswers, SystemAnswers, settled, ended}
-use Rattle.ckpt_step.specs.Plain.{IsUnstamped}
 use Rattle.kv_model.specs.Reads.{present}
 use Rattle.wt_tool.specs.Led.{IsWord}
 use Rattle.wt_tool.specs.Parts.{NoDamage}
@@ -46,14 +45,14 @@ steps_if true x y one other = one
 steps_if false x y one other = other
 
 -- no check tells of damage
-abbrev AreCalm : List (Bool × Refusal) → Type 0
-AreCalm [] = Unit {0}
-AreCalm ((b, r) ∷ checks) = NoDamage r × AreCalm checks
+abbrev AreUndamaged : List (Bool × Refusal) → Type 0
+AreUndamaged [] = Unit {0}
+AreUndamaged ((b, r) ∷ checks) = NoDamage r × AreUndamaged checks
 
-steps_checked : (checks : List (Bool × Refusal)) (go : Outcome × Event) → AreCalm checks → Steps go → Steps (checked checks go)
-steps_checked [] go calm steps = steps
-steps_checked ((true, r) ∷ checks) go calm steps = calm.0
-steps_checked ((false, r) ∷ checks) go calm steps = steps_checked checks go calm.1 steps
+steps_checked : (checks : List (Bool × Refusal)) (go : Outcome × Event) → AreUndamaged checks → Steps go → Steps (checked checks go)
+steps_checked [] go undamaged steps = steps
+steps_checked ((true, r) ∷ checks) go undamaged steps = undamaged.0
+steps_checked ((false, r) ∷ checks) go undamaged steps = steps_checked checks go undamaged.1 steps
 
 steps_ruled : (rules : List (Bool × Invalid)) (event refusal : Event) → Steps (ruled rules event refusal)
 steps_ruled rules event refusal = steps_of (kv.Done, event) (λ (reason : Invalid). (kv.Refused (Refusal_Invalid reason), refusal)) (first_of rules) tt (λ reason. tt)
@@ -118,7 +117,7 @@ tells_done (kv.Refused r) a step is = subst IsDone (sym is) step
 tells_done _ a step is = absurd step
 
 refused_done : (r : Refusal) (a : Answer (List ℕ)) → NoDamage r → a ≡ answers.Refused r → IsDone a
-refused_done r a calm is = subst IsDone (sym is) calm
+refused_done r a undamaged is = subst IsDone (sym is) undamaged
 
 judged_done : (m : Machine) (session : ℕ) (request : Request) (o : Outcome) (a : Answer (List ℕ)) (next : Machine) → Steps (judged m session request) → Judged m session request o next → Tells o a → IsDone a
 judged_done m session request o a next steps (e, is, leaves) told = tells_done o a (subst Steps is (steps_decision m session request steps)) told
@@ -140,21 +139,21 @@ commit_done m session o a next is told =
     let d = decision m session (CommitCall None None) in
     tells_done o a (subst (λ (x : Outcome × Machine). IsStep x.0) is (settled_steps m session d.0 d.1 (steps_decision m session (CommitCall None None) (commit_steps m session)))) told
 
-unmet_calm : (demand : Demand) (o : Option (List ℕ)) (at want found : ℕ) → unmet demand o ≡ Some (Corrupt at want found) → ⊥
-unmet_calm Anything None at want found is = cc
-unmet_calm Anything (Some v) at want found is = cc
-unmet_calm Vacant None at want found is = cc
-unmet_calm Vacant (Some v) at want found is = cc
-unmet_calm Occupied None at want found is = cc
-unmet_calm Occupied (Some v) at want found is = cc
+unmet_undamaged : (demand : Demand) (o : Option (List ℕ)) (at want found : ℕ) → unmet demand o ≡ Some (Corrupt at want found) → ⊥
+unmet_undamaged Anything None at want found is = cc
+unmet_undamaged Anything (Some v) at want found is = cc
+unmet_undamaged Vacant None at want found is = cc
+unmet_undamaged Vacant (Some v) at want found is = cc
+unmet_undamaged Occupied None at want found is = cc
+unmet_undamaged Occupied (Some v) at want found is = cc
 
-write_calm : (m : Machine) (session : ℕ) (t : Transaction) (table : ℕ) (key : List ℕ) (change : Change) (demand : Demand) (r : Refusal) (event : Event) → WriteAnswer m session t table key change demand (kv.Refused r) event → NoDamage r
-write_calm m session t table key change demand (Corrupt at want found) event may = unmet_calm demand (present m t table key) at want found may.1
-write_calm m session t table key change demand _ event may = tt
+write_undamaged : (m : Machine) (session : ℕ) (t : Transaction) (table : ℕ) (key : List ℕ) (change : Change) (demand : Demand) (r : Refusal) (event : Event) → WriteAnswer m session t table key change demand (kv.Refused r) event → NoDamage r
+write_undamaged m session t table key change demand (Corrupt at want found) event may = unmet_undamaged demand (present m t table key) at want found may.1
+write_undamaged m session t table key change demand _ event may = tt
 
 write_looks : (m : Machine) (session : ℕ) (t : Transaction) (table : ℕ) (key : List ℕ) (change : Change) (demand : Demand) (o : Outcome) (event : Event) → WriteAnswer m session t table key change demand o event → IsStep o
 write_looks m session t table key change demand kv.Done event may = tt
-write_looks m session t table key change demand (kv.Refused r) event may = write_calm m session t table key change demand r event may
+write_looks m session t table key change demand (kv.Refused r) event may = write_undamaged m session t table key change demand r event may
 write_looks m session t table key change demand _ event there = absurd there
 
 placed_steps : (m : Machine) (session : ℕ) (name : List ℕ) (request : Request) (Looks : Machine → Transaction → Table → Outcome → Event → Type 0) (o : Outcome) (next : Machine)
@@ -163,29 +162,23 @@ placed_steps m session name request Looks o next steps look (inl (r, e, decides,
 placed_steps m session name request Looks o next steps look (inr (e, t, table, event, decides, finds, looks, leaves)) = look (after m e) t table event looks
 
 held_done : (a : Around) (m : Machine) (session : ℕ) (request : Request) (answer : Answer (List ℕ)) (next : Machine) → ((r : Refusal) → a.MayKeepOut r → NoDamage r) → IsHeldUp a m session request answer next → IsDone answer
-held_done a m session request answer next calm (inl short) = refused_done NoMemory answer tt short.0
-held_done a m session request answer next calm (inr (e, decides, inl short)) = refused_done NoMemory answer tt short.0
-held_done a m session request answer next calm (inr (e, decides, inr (r, may, told, rest))) = refused_done r answer (calm r may) told
+held_done a m session request answer next undamaged (inl short) = refused_done NoMemory answer tt short.0
+held_done a m session request answer next undamaged (inr (e, decides, inl short)) = refused_done NoMemory answer tt short.0
+held_done a m session request answer next undamaged (inr (e, decides, inr (r, may, told, rest))) = refused_done r answer (undamaged r may) told
 
 -- where no damage keeps a leaf from it
 pub word_done : (a : Around) (m : Machine) (session : ℕ) (c : Call) (answer : Answer (List ℕ)) (next : Machine) → ((r : Refusal) → a.MayKeepOut r → NoDamage r) → IsWord c → SessionAnswers a m session c answer next → IsDone answer
-word_done a m session (Begin None) answer next calm word (inl (o, decides, told)) = judged_done m session (BeginCall None) o answer next (begin_steps m session) decides told
-word_done a m session (Begin None) answer next calm word (inr held) = absurd held
-word_done a m session (Commit None None) answer next calm word (inl (o, decides, told)) = commit_done m session o answer next decides told
-word_done a m session (Commit None None) answer next calm word (inr held) = absurd held
-word_done a m session (PutKey name key value demand) answer next calm word (inl (o, decides, told)) =
+word_done a m session (Begin None) answer next undamaged word (inl (o, decides, told)) = judged_done m session (BeginCall None) o answer next (begin_steps m session) decides told
+word_done a m session (Begin None) answer next undamaged word (inr held) = absurd held
+word_done a m session (Commit None None) answer next undamaged word (inl (o, decides, told)) = commit_done m session o answer next decides told
+word_done a m session (Commit None None) answer next undamaged word (inr held) = absurd held
+word_done a m session (PutKey name key value demand) answer next undamaged word (inl (o, decides, told)) =
     tells_done o answer
     (placed_steps m session name (FindToWrite name key (PutOf value)) (λ n t table o event. WriteAnswer n session t table.number key (PutOf value) demand o event) o next (write_steps m session name key (PutOf value))
     (λ n t table event looks. write_looks n session t table.number key (PutOf value) demand o event looks) decides)
     told
-word_done a m session (PutKey name key value demand) answer next calm word (inr held) = held_done a m session (FindToWrite name key (PutOf value)) answer next calm held
-word_done a m session _ answer next calm word answered = absurd word
-
-pub word_unstamped : (c : Call) → IsWord c → IsUnstamped c
-word_unstamped (Begin None) word = tt
-word_unstamped (PutKey name key value demand) word = tt
-word_unstamped (Commit None None) word = tt
-word_unstamped _ word = absurd word
+word_done a m session (PutKey name key value demand) answer next undamaged word (inr held) = held_done a m session (FindToWrite name key (PutOf value)) answer next undamaged held
+word_done a m session _ answer next undamaged word answered = absurd word
 
 pub create_done : (a : Around) (m : Machine) (name : List ℕ) (formats : Formats) (answer : Answer (List ℕ)) (next : Machine) → SystemAnswers a m (Create name formats) answer next → IsDone answer
 create_done a m name formats answer next (inl (is, same)) = refused_done NoMemory answer tt is

@@ -25,7 +25,7 @@ owner bytes (t ∷ tables) (x ∷ uppers) u have (inr later) =
 -- by the same survey
 pub leaf_fault : (bytes : List ℕ) (at want found : ℕ) → HasSpoiltLeaf bytes at want found → LeafIsAtFault bytes at want found
 leaf_fault bytes at want found spoilt =
-    let a = spoilt.above in
+    let a = spoilt.whole in
     let surveyed = spoilt.surveyed in
     let leaf = spoilt.leaf in
     let there = owner bytes a.record.tables a.uppers.items leaf.upper surveyed.have leaf.among in
@@ -33,7 +33,6 @@ leaf_fault bytes at want found spoilt =
       slot = surveyed.slot;
       names = a.record;
       there = surveyed.names;
-      bare = surveyed.bare;
       table = there.0;
       among = there.1;
       es = leaf.upper.entries.items;

@@ -20,7 +20,6 @@ use Rattle.wt_calls.specs.declared.system_call.SystemCall.TheVariants as system
 use Rattle.engine_world.specs.Whole.{around_kept, nothing_around}
 use Rattle.engine_world.specs.Worlds.{World, Doing, Resting, doing_of}
 use Rattle.engine.specs.Whole.{CallsKept, KeptBy, MakesAt, with_session_more}
-use Rattle.ckpt_step.specs.Calm.{AnswersCalm, KeptCalm, OpensCalm}
 use Rattle.ckpt_step.specs.Keeps.{IsOrdinary, KeptKeep, StepsKeep}
 use Rattle.engine_store.specs.declared.eviction.TheConstants.{FRAMES}
 use Rattle.engine_store.specs.declared.store.Store.{Store}
@@ -31,8 +30,8 @@ use Rattle.wt_tool.specs.Led.{DoneBy, Holds, IsWord, OpenedBy}
 use Rattle.wt_tool.specs.Parts.{NoDamage}
 use Rattle.wt_tool.specs.Points.{Did, point_of}
 use Rattle.wt_tool.proofs.Beside.{keeps_same, looked_keeps, looked_later, same_device, soft_cause, wider}
-use Rattle.wt_tool.proofs.Called.{IsDone, create_done, word_done, word_unstamped}
-use Rattle.wt_tool.proofs.Quiet.{quiet_calm, quiet_more, quiet_on, quiet_ordinary}
+use Rattle.wt_tool.proofs.Called.{IsDone, create_done, word_done}
+use Rattle.wt_tool.proofs.Quiet.{quiet_more, quiet_on, quiet_ordinary}
 
 word_ordinary : (c : Call) → IsWord c → IsOrdinary c
 word_ordinary (Begin None) word = tt
@@ -56,7 +55,7 @@ by_done P _ done none p = absurd done
 module _ {D : Type 0} (g : Ghosts D) (start_disk : D) (first : Completed) (w : World) (s s' : Store) (before after : D) (looked : Looked g before after) (frames : s'.frames ≡ s.frames) (holds : Holds g start_disk first s before w) where
   -- ---- a call of the session
 
-  module _ (calm : KeptCalm) (keep : KeptKeep) (c : Call) (word : IsWord c) (a : Answer (List ℕ)) (x : Called g start_disk w first [] s s' before after 0 c a) where
+  module _ (keep : KeptKeep) (c : Call) (word : IsWord c) (a : Answer (List ℕ)) (x : Called g start_disk w first [] s s' before after 0 c a) where
     answered : SessionAnswers (around_kept x.kept) w.machine 0 c a x.later.machine × (x.later.machine.fault ≡ w.machine.fault) × (x.later ≡ record w { machine = x.later.machine })
     answered = answered_at x.kept (doing_of w 0) w c a x.later (holds.quiet.sessions 0) x.called
 
@@ -69,7 +68,6 @@ module _ {D : Type 0} (g : Ghosts D) (start_disk : D) (first : Completed) (w : W
         record {
           held = x.held;
           quiet = quiet_on w x.later holds.quiet answered.2;
-          plain = (calm x.kept w x.later 0 c a (quiet_calm w holds.quiet holds.plain) (word_unstamped c word) x.called).plain;
           completed = keeps.completed ∙ holds.completed;
           up = answered.1 ∙ holds.up;
           soft = frames ∙ holds.soft;
@@ -83,8 +81,8 @@ module _ {D : Type 0} (g : Ghosts D) (start_disk : D) (first : Completed) (w : W
     }
 
     -- no damage keeps its leaf from it
-    kept_calm : (r : Refusal) → x.kept ≡ Some r → NoDamage r
-    kept_calm r is = by (caused r is)
+    kept_undamaged : (r : Refusal) → x.kept ≡ Some r → NoDamage r
+    kept_undamaged r is = by (caused r is)
       where
         by : IsCause (Rose (g.faults before) (g.faults after)) ⊥ w.machine.fault r → NoDamage r
         by (inl none) = subst NoDamage (sym none) tt
@@ -93,11 +91,11 @@ module _ {D : Type 0} (g : Ghosts D) (start_disk : D) (first : Completed) (w : W
         by (inr (inr (inl (f, panic, down)))) = subst NoDamage (sym panic) tt
 
     is_done : IsDone a
-    is_done = word_done (around_kept x.kept) w.machine 0 c a x.later.machine kept_calm word answered.0
+    is_done = word_done (around_kept x.kept) w.machine 0 c a x.later.machine kept_undamaged word answered.0
 
     -- and none is told
-    pub call_calm : (r : Refusal) → a ≡ answers.Refused r → NoDamage r
-    call_calm r is = subst IsDone is is_done
+    pub call_undamaged : (r : Refusal) → a ≡ answers.Refused r → NoDamage r
+    call_undamaged r is = subst IsDone is is_done
 
     pub call_done : ((r : Refusal) → a ≡ answers.Refused r → ⊥) → DoneBy g start_disk first w s' before after (Session 0) c (Ok tt)
     call_done none = (
@@ -112,7 +110,7 @@ module _ {D : Type 0} (g : Ghosts D) (start_disk : D) (first : Completed) (w : W
 
   -- ---- a table that is made
 
-  module _ (calm : AnswersCalm) (keep : StepsKeep) (name : List ℕ) (formats : Formats) (a : Answer (List ℕ)) (x : Made g start_disk w first [] s s' before after (call.System 0 (system.Create name formats)) a) where
+  module _ (keep : StepsKeep) (name : List ℕ) (formats : Formats) (a : Answer (List ℕ)) (x : Made g start_disk w first [] s s' before after (call.System 0 (system.Create name formats)) a) where
     created : SystemAnswers nothing_around w.machine (Create name formats) a x.later.machine × (x.later ≡ record w { machine = x.later.machine })
     created = made_at (slice_index_or w.systems 0 None) w (Create name formats) a x.later (holds.quiet.systems 0) x.answered
 
@@ -122,7 +120,6 @@ module _ {D : Type 0} (g : Ghosts D) (start_disk : D) (first : Completed) (w : W
         record {
           held = x.held;
           quiet = quiet_on w x.later holds.quiet created.1;
-          plain = (calm w x.later (call.System 0 (system.Create name formats)) a (quiet_calm w holds.quiet holds.plain) tt x.answered).plain;
           completed = keeps.completed ∙ holds.completed;
           up = keeps.fault ∙ holds.up;
           soft = frames ∙ holds.soft;
@@ -157,13 +154,12 @@ module _ {D : Type 0} (g : Ghosts D) (start_disk : D) (first : Completed) (w : W
   opens_now : length w.machine.sessions ≡ 0 → decision w.machine 0 OpenCall ≡ (kv.Done, OpenSession)
   opens_now none = rw (holds.up, none) refl
 
-  pub opened_done : (s' : Store) (number : ℕ) → s'.frames ≡ s.frames → OpensCalm → length w.machine.sessions ≡ 0 → Opens g start_disk w first [] s s' disk disk number → OpenedBy g start_disk first w s' disk disk (Ok tt)
-  opened_done s' number frames calm none x = (
+  pub opened_done : (s' : Store) (number : ℕ) → s'.frames ≡ s.frames → length w.machine.sessions ≡ 0 → Opens g start_disk w first [] s s' disk disk number → OpenedBy g start_disk first w s' disk disk (Ok tt)
+  opened_done s' number frames none x = (
     with_session_more w,
     record {
       held = x.held;
       quiet = quiet_more w holds.quiet;
-      plain = (calm w (quiet_calm w holds.quiet holds.plain)).plain;
       completed = holds.completed;
       up = holds.up;
       soft = frames ∙ holds.soft;

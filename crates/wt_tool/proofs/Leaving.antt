@@ -1,34 +1,26 @@
 -- What a command leaves of its device, by what its calls and its close did.
-use Rattle.std.specs.Prelude.{◌≡◌, ℕ, List, [], Option, Some, None, Result, Ok, Err}
-use Rattle.std.proofs.Common.{ap, inl, refl, sym, subst}
+use Rattle.std.specs.Prelude.{◌≡◌, ℕ, List, [], Result, Ok, Err}
+use Rattle.std.proofs.Common.{inl, refl, sym, subst}
 use Rattle.disk_model.specs.declared.disk.Disk.{Ghosts}
 use Rattle.disk_model.proofs.Crash.{started, widened}
 use Rattle.wt_code.specs.declared.refusals.Refusal.{Refusal}
 use Rattle.kv_model.specs.Content.{Content, start, OpensAs}
 use Rattle.kv_model.specs.Machine.{Completed}
-use Rattle.stored.specs.Stored.{Stored, Reads}
+use Rattle.stored.specs.Stored.{Reads}
 use Rattle.stored.proofs.Device.{one_content}
 use Rattle.device_leaf.specs.Closings.{content_was}
-use Rattle.tree_dir.specs.declared.leaf.Leaf.{Leaf}
-use Rattle.kv_model.specs.History.{Table}
-use Rattle.tree_open.specs.declared.place.TreePlace.{TreePlace}
 use Rattle.engine_world.specs.Stands.{Stands}
-use Rattle.engine_world.specs.Systems.{first_world}
 use Rattle.engine_world.specs.Worlds.{World}
-use Rattle.evict_step.specs.Kept.{Lists, records_in}
 use Rattle.ckpt_step.specs.Floors.{Follows}
 use Rattle.ckpt_step.specs.declared.lives.Lone.{Lone}
-use Rattle.ckpt_step.specs.Grounds.{AreRoots}
-use Rattle.ckpt_step.specs.Plain.{IsBareStill, IsPlain, StartsPlain}
-use Rattle.ckpt_step.specs.Rooms.{Written}
 use Rattle.engine_store.specs.declared.eviction.TheConstants.{FRAMES}
 use Rattle.engine_store.specs.declared.frames.Frames.TheVariants.{Soft}
 use Rattle.engine_store.specs.declared.store.Store.{Store}
 use Rattle.engine_store.specs.Held.{IsHeld}
 use Rattle.engine_store.specs.Images.{EachReads}
+use Rattle.engine_store.specs.Keeping.{begun_with}
 use Rattle.engine_store.specs.Opened.{IsOpened}
 use Rattle.engine_store.proofs.NoLives.{none_on}
-use Rattle.engine_store.proofs.OtherRecords.{held_kept}
 use Rattle.wt_tool.specs.Led.{Holds, LedBy}
 use Rattle.wt_tool.specs.Loads.{ClosesLoad}
 use Rattle.wt_tool.specs.Parts.{IsLeft, LeavesAt, silent_run}
@@ -38,10 +30,6 @@ use Rattle.wt_tool.proofs.Quiet.{first_quiet}
 
 -- ---- a store that was opened on the device
 
-bare_roots : (known : List Table) (lives : List Lone) (leaves : List Leaf) (written : Written) (places : List TreePlace) (old : Option Stored) → AreRoots known lives leaves written places old → IsBareStill old
-bare_roots known lives leaves written places None roots = tt
-bare_roots known lives leaves written places (Some s) roots = roots.bare
-
 module _ {D : Type 0} (g : Ghosts D) (disk : D) (s : Store) (on : IsOpened (g.seen disk) (g.may_leave disk) s) where
   module _ (content : Content) (each : EachReads (g.may_leave disk) content) (seen : Reads (g.seen disk) content) where
     -- the device has one content
@@ -49,20 +37,21 @@ module _ {D : Type 0} (g : Ghosts D) (disk : D) (s : Store) (on : IsOpened (g.se
     same = one_content (g.seen disk) (content_was on.old) content (still_reads on.old (g.seen disk) on.on.stands.seen_has) seen
 
     abbrev pub first_of : World
-    first_of = first_world content on.shelf s.engine
+    first_of = begun_with content on.shelf s
 
     -- the device has what the engine started on
     pub first_held : ((c : List ℕ) → g.left_since disk (g.moment disk) c → g.may_leave disk c) → IsHeld g disk s disk first_of (start content).completed []
     first_held now =
         let opens : OpensAs (content_was on.old) (start content).completed = subst (λ (c : Content). OpensAs c (start content).completed) (sym same) (start_opens content each.1) in
-        held_kept g disk disk s first_of (start content).completed [] (record {
-          stands = subst (λ (c : Content). Stands s.engine (first_world c on.shelf s.engine)) same on.world;
+        record {
+          stands = subst (λ (c : Content). Stands s.engine (begun_with c on.shelf s)) same on.world;
           idle = refl;
-          kept = λ leaf key. sym (ap (λ (l : Lists). records_in l leaf key) on.kept);
+          kept = λ leaf key. refl;
+          bare = on.bare;
           on = λ up. record {
             old = on.old;
             on = on.on;
-            follows = subst (λ (c : Content). Follows on.old s.engine.hub s.ground (first_world c on.shelf s.engine)) same on.follows;
+            follows = subst (λ (c : Content). Follows on.old s.engine.hub s.ground (begun_with c on.shelf s)) same on.follows;
             since = none_on (g.seen disk) s.engine.hub s.ground first_of on.none;
             opens = opens;
             one = ((start content).completed, inl refl, opens);
@@ -72,16 +61,11 @@ module _ {D : Type 0} (g : Ghosts D) (disk : D) (s : Store) (on : IsOpened (g.se
           ever = widened g disk disk _ _ (started g disk (λ c. Reads c content) (λ c left. each.0 c (now c left))) (λ c reads. inl (content, reads, start_opens content each.1));
           stays = tt;
           past = tt;
-        })
-
-    -- no commit had a stamp
-    pub first_plain : StartsPlain → IsPlain (start content)
-    first_plain law = subst (λ (c : Content). IsPlain (start c)) same
-        (law (g.seen disk) on.old on.on.stands.seen_has (bare_roots _ _ _ _ _ on.old on.on.roots))
+        }
 
     -- the command holds it
-    pub first_holds : s.frames ≡ Soft FRAMES → StartsPlain → ((c : List ℕ) → g.left_since disk (g.moment disk) c → g.may_leave disk c) → Holds g disk (start content).completed s disk first_of
-    first_holds soft law now = record { held = first_held now; quiet = first_quiet content on.shelf s.engine; plain = first_plain law; completed = refl; up = refl; soft = soft }
+    pub first_holds : s.frames ≡ Soft FRAMES → ((c : List ℕ) → g.left_since disk (g.moment disk) c → g.may_leave disk c) → Holds g disk (start content).completed s disk first_of
+    first_holds soft now = record { held = first_held now; quiet = first_quiet content on.shelf first_of.records s.engine; completed = refl; up = refl; soft = soft }
 
 -- ---- what is left
 

@@ -56,9 +56,9 @@ pub refused_sound : (honest : Type 0) (bytes : List ℕ) (ended : Bool) (text : 
 refused_sound honest bytes ended text r (inl short) = subst (TellsSpoilt honest bytes) (sym short) tt
 refused_sound honest bytes ended text r (inr (number, is, at)) = subst (TellsSpoilt honest bytes) (sym is) tt
 
-pub refused_calm : (ended : Bool) (text : List ℕ) (r : Refusal) → IsRefused ended text r → r ≡ DiskFault → ⊥
-refused_calm ended text r (inl short) fault = let bad : NoMemory ≡ DiskFault = sym short ∙ fault in cc (bad)
-refused_calm ended text r (inr (number, is, at)) fault = let bad : Refusal_Invalid (Text number) ≡ DiskFault = sym is ∙ fault in cc (bad)
+pub refused_no_fault : (ended : Bool) (text : List ℕ) (r : Refusal) → IsRefused ended text r → r ≡ DiskFault → ⊥
+refused_no_fault ended text r (inl short) fault = let bad : NoMemory ≡ DiskFault = sym short ∙ fault in cc (bad)
+refused_no_fault ended text r (inr (number, is, at)) fault = let bad : Refusal_Invalid (Text number) ≡ DiskFault = sym is ∙ fault in cc (bad)
 
 -- ---- an input
 

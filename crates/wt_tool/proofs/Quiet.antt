@@ -6,11 +6,9 @@ use Rattle.kv_model.specs.Content.{Content}
 use Rattle.row_page.specs.Rows.{Row}
 use Rattle.engine_world.specs.Stands.{Engine}
 use Rattle.engine_world.specs.Systems.{first_world}
-use Rattle.engine_world.specs.Worlds.{World, Doing, Resting}
+use Rattle.engine_world.specs.Worlds.{Records, World, Doing, Resting}
 use Rattle.engine.specs.Whole.{with_session_more}
-use Rattle.ckpt_step.specs.Calm.{IsCalm, IsUnstampedDoing}
 use Rattle.ckpt_step.specs.Keeps.{AreOrdinary, IsOrdinary, IsOrdinaryDoing}
-use Rattle.ckpt_step.specs.Plain.{IsPlain, IsUnstamped}
 use Rattle.wt_tool.specs.Led.{IsQuiet}
 
 -- ---- as an opening makes them
@@ -20,17 +18,10 @@ none_of [] n = refl
 none_of (x ∷ xs) zero = refl
 none_of (x ∷ xs) (suc n) = none_of xs n
 
-pub first_quiet : (content : Content) (shelf : ℕ → List Row) (e : Engine) → IsQuiet (first_world content shelf e)
-first_quiet content shelf e = record { sessions = λ session. refl; systems = λ number. none_of e.systems number }
+pub first_quiet : (content : Content) (shelf : ℕ → List Row) (records : Records) (e : Engine) → IsQuiet (first_world content shelf records e)
+first_quiet content shelf records e = record { sessions = λ session. refl; systems = λ number. none_of e.systems number }
 
 -- ---- behind a call
-
-pub quiet_calm : (w : World) → IsQuiet w → IsPlain w.machine → IsCalm w
-quiet_calm w quiet plain = record {
-  plain = plain;
-  doings = λ session. subst (λ (d : Doing). IsUnstampedDoing d) (sym (quiet.sessions session)) tt;
-  systems = λ number. subst (λ (o : Option Call). MatchOption o (Unit {0}) IsUnstamped) (sym (quiet.systems number)) tt;
-}
 
 pub quiet_ordinary : (w : World) → IsQuiet w → AreOrdinary w
 quiet_ordinary w quiet = record {

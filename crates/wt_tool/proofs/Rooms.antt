@@ -17,7 +17,7 @@ module _ {D : Type 0} (g : Ghosts D) (start_disk : D) (first : Completed) (w : W
   pub room_made : WroteUp g start_disk w first [] s s' before after → WentOut g start_disk first w s' before after (Ok tt)
   room_made x = (
     record w { shelf = x.shelf },
-    record { held = x.wrote.held; quiet = record { sessions = holds.quiet.sessions; systems = holds.quiet.systems }; plain = x.wrote.plain; completed = holds.completed; up = holds.up; soft = frames ∙ holds.soft },
+    record { held = x.wrote.held; quiet = record { sessions = holds.quiet.sessions; systems = holds.quiet.systems }; completed = holds.completed; up = holds.up; soft = frames ∙ holds.soft },
     refl,
     x.wrote.later,
     x.keeps,

@@ -13,33 +13,24 @@ use Rattle.stored.specs.Stored.{Stored, Reads, IsOn, IsBlank}
 use Rattle.wt_code.specs.declared.refusals.Refusal.{Refusal}
 use Rattle.wt_code.specs.declared.refusals.Refusal.TheVariants.{NoMemory, DiskFault, Corrupt, Limit as Refusal_Limit, Invalid as Refusal_Invalid}
 use Rattle.wt_code.specs.declared.refusals.Invalid.TheVariants.{BadName}
-use Rattle.wt_code.specs.declared.refusals.Limit.TheVariants.{Image, Tables, Checkpoints}
+use Rattle.wt_code.specs.declared.refusals.Limit.TheVariants.{Tables, Checkpoints}
 use Rattle.wt_io.specs.Streams.{Gave, Took}
 use Rattle.turtle.proofs.Choice.{chooses_one}
-use Rattle.kv_model.specs.History.{Table}
 use Rattle.checkpoint_core.specs.Stands.{HasStill}
 use Rattle.device_leaf.specs.Closings.{content_was}
-use Rattle.tree_dir.specs.declared.leaf.Leaf.{Leaf}
-use Rattle.tree_open.specs.declared.place.TreePlace.{TreePlace}
-use Rattle.recover_open.specs.Bare.{IsBare}
-use Rattle.stored.specs.Records.{Record}
-use Rattle.recover_open.proofs.Devices.{damage_no_content, kept_is}
-use Rattle.recover_open.proofs.Steps.{refused_further}
-use Rattle.recover_open.specs.Recoveries.{RecoveryRefused}
-use Rattle.ckpt_step.specs.declared.lives.Lone.{Lone}
-use Rattle.ckpt_step.specs.Grounds.{AreRoots}
-use Rattle.ckpt_step.specs.Rooms.{Written, known_in}
+use Rattle.tree_open.proofs.Steps.{refused_more}
+use Rattle.recover_open.proofs.Devices.{whole_damage_no_content}
+use Rattle.recover_open.specs.Wholes.{IsWholeDamage}
 use Rattle.engine_store.specs.declared.store.Store.{Store}
-use Rattle.engine_store.specs.Opened.{HasNumbers, IsOpened, LacksNumbers, OpenRefused}
+use Rattle.engine_store.specs.Opened.{HasNumbers, IsAtFault, IsOpened, LacksNumbers, OpenRefused}
 use Rattle.engine_store.proofs.Refusing.{spoilt_no_content}
 use Rattle.stored.proofs.Device.{one_content, one_stored}
-use Rattle.device_read.specs.Readers.{Held, IsReaderOf}
 use Rattle.device_read.specs.Refusals.{HasNumbers as HasNumbersLeft, LeafIsAtFault, OpenRefused as ReaderRefused}
 use Rattle.device_read.proofs.LeafPlaces.{at_fault}
 use Rattle.wt_line.specs.Line.{Asked, create, write, read, list, verify, script, dump, load}
 use Rattle.script_run.specs.Scripts.{Outside, counts}
 use Rattle.wt_tool.specs.Points.{Point, Ran, point_of, stops}
-use Rattle.engine_store.specs.Devices.{Device, Installed, device_of, last_number, IsUsedUp, IsWide}
+use Rattle.engine_store.specs.Devices.{Device, Installed, device_of, last_number, IsUsedUp}
 use Rattle.wt_tool.specs.Openings.{Named, RefusesOpening, MayOpen, Opens, Opened}
 use Rattle.wt_tool.specs.Commands.{Runs, IsOnEngine, IsByReader}
 use Rattle.wt_tool.specs.Damaged.{DumpsTableOn, ReadsKeysOn, RunsDumpOn, RunsOn, RunsReadOn, device_on, point_on}
@@ -48,7 +39,7 @@ use Rattle.wt_tool.specs.Reads.{ReadsKeys, RunsRead}
 use Rattle.wt_tool.specs.Words.{name_in}
 use Rattle.wt_tool.specs.Parts.{at, NoDamage, TellsOfScript, TellsSpoilt, IsOpenedOn, Leaves, Loading, Reading, Scripting, met_of, end_of, silent_run}
 use Rattle.wt_tool.specs.Loads.{RunsLoad}
-use Rattle.wt_tool.specs.Top.{Went, WentOn, Telling, IsOpenableFor, IsReadable, IsSoFor, IsStatus, Tells, IsTold, IsCut, Streams, Errors, lines, last_line, status_of, first_status, status_at}
+use Rattle.wt_tool.specs.Top.{Went, WentOn, Telling, IsOpenableFor, IsReadable, IsSoFor, IsToldOf, IsStatus, Tells, IsTold, IsCut, Streams, Errors, lines, last_line, status_of, first_status, status_at}
 use Rattle.engine_store.specs.Images.{OpensToLast, Stays}
 use Rattle.wt_tool.proofs.Closings.{still_reads, start_opens}
 use Rattle.wt_tool.proofs.FaultyLeaves.{engine_leaf, leaf_fault}
@@ -64,13 +55,10 @@ run_below : (old : Option Stored) → HasNumbers old → (content_was old).run <
 run_below None numbers = omega (arith)
 run_below (Some s) numbers = numbers.0
 
-bare_still : (known : List Table) (lives : List Lone) (leaves : List Leaf) (written : Written) (places : List TreePlace) (s : Stored) → AreRoots known lives leaves written places (Some s) → IsBare s.kept
-bare_still known lives leaves written places s roots = roots.bare
-
 -- of a store that was opened on a disk that reads and was looked at
-module _ {D : Type 0} (g : Ghosts D) (old mid : D) (s : Store) (looked : Looked g old mid) (on : IsOpenedOn g mid s) (content : Content) (reads : Reads (g.seen old) content) where
+module _ {D : Type 0} (g : Ghosts D) (old mid : D) (s : Store) (looked : Looked g old mid) (on : IsOpenedOn g mid s) (content : Content) (reads : Reads (g.seen old) content) (layered : IsLayered content) where
   opened : IsOpened (g.seen mid) (g.may_leave mid) s
-  opened = on.reads content (subst (λ (l : List ℕ). Reads l content) (sym looked.content) reads)
+  opened = on.reads content (subst (λ (l : List ℕ). Reads l content) (sym looked.content) reads) layered
 
   still_there : HasStill opened.old (g.seen old)
   still_there = subst (λ (l : List ℕ). HasStill opened.old l) looked.content opened.on.stands.seen_has
@@ -83,35 +71,33 @@ module _ {D : Type 0} (g : Ghosts D) (old mid : D) (s : Store) (looked : Looked 
 
   pub may_open : MayOpen (point_of g (start content) old)
   may_open = record {
-    narrow = λ wide. wide.2 (bare_still _ _ _ _ _ wide.0 (subst (λ (o : Option Stored). AreRoots s.engine.hub.tables.tables s.ground.lives s.engine.hub.dir.leaves (known_in s.ground.parts) s.ground.trees.items o) (one_there wide.0 wide.1) opened.on.roots));
     numbers = λ used. absurd (omega (arith, used.2, (subst (λ (o : Option Stored). HasNumbers o) (one_there used.0 used.1) opened.numbers).1));
     run = λ same. omega (arith, same, subst (λ (c : Content). c.run < last_number) (sym was) (run_below opened.old opened.numbers));
   }
 
 -- a refusal of an opening that began later
 pub open_further : (fault later : Type 0) (h k : Type 0) (bytes : List ℕ) (r : Refusal) → OpenRefused later k bytes r → (later → fault) → (h → k) → OpenRefused fault h bytes r
-open_further fault later h k bytes r (inl why) more known = inl (refused_further fault later h k bytes r why more known)
-open_further fault later h k bytes r (inr (inl (is, lacks, shut))) more known = inr (inl (is, (λ x. lacks (known x)), λ x. shut (known x)))
-open_further fault later h k bytes r (inr (inr (at_place, want, found, is, spoilt))) more known = inr (inr (at_place, want, found, is, λ x. spoilt (known x)))
+open_further fault later h k bytes r (inl why) more known = inl (refused_more later fault k h (IsAtFault bytes) (IsAtFault bytes) r more known (λ at want found h fault. fault) why)
+open_further fault later h k bytes r (inr (inl (is, why))) more known = inr (inl (is, λ x. why (known x)))
+open_further fault later h k bytes r (inr (inr (is, lacks, shut))) more known = inr (inr (is, (λ x. lacks (known x)), λ x. shut (known x)))
 
 -- a device that reads as something is blank or has a checkpoint
-pub wide_of : (bytes : List ℕ) (content : Content) → Reads bytes content → ((s : Stored) → IsOn bytes s → IsBare s.kept → ⊥) → (IsBlank bytes → ⊥) → IsWide bytes
-wide_of bytes content (inl (blank, is)) none shut = absurd (shut blank)
-wide_of bytes content (inr (s, on, is)) none shut = (s, on, none s on)
-
 used_of : (bytes : List ℕ) (content : Content) → Reads bytes content → ((s : Stored) → IsOn bytes s → LacksNumbers s.kept) → (IsBlank bytes → ⊥) → IsUsedUp bytes
 used_of bytes content (inl (blank, is)) lacks shut = absurd (shut blank)
 used_of bytes content (inr (s, on, is)) lacks shut = (s, on, lacks s on)
+
+-- there is no damage of a device that reads, and no leaf at fault
+fault_no_content : (bytes : List ℕ) (at want found : ℕ) (content : Content) → IsAtFault bytes at want found → Reads bytes content → ⊥
+fault_no_content bytes at want found content (inl damage) reads = whole_damage_no_content bytes at want found content damage reads
+fault_no_content bytes at want found content (inr spoilt) reads = spoilt_no_content bytes at want found content spoilt reads
 
 -- why a device that reads is not opened
 pub refused_at : (d d' : Device) (known : Type 0) (content : Content) (r : Refusal) → known → Reads d.seen content → OpenRefused (Rose d.faults d'.faults) known d.seen r → RefusesOpening (at d (start content)) d' r
 refused_at d d' known content r k reads (inl (inl failed)) = inl failed
 refused_at d d' known content r k reads (inl (inr (inl none))) = inr (inl none)
-refused_at d d' known content r k reads (inl (inr (inr (inl (is, why))))) = inr (inr (inr (inr (is, ap (λ n. n + 1) (why k content reads)))))
-refused_at d d' known content r k reads (inl (inr (inr (inr (inl (is, why, shut)))))) = inr (inr (inl (is, wide_of d.seen content reads (why k) (shut k))))
-refused_at d d' known content r k reads (inl (inr (inr (inr (inr (at_place, want, found, is, why)))))) = absurd (damage_no_content d.seen at_place want found content (why k) reads)
-refused_at d d' known content r k reads (inr (inl (is, lacks, shut))) = inr (inr (inr (inl (is, used_of d.seen content reads (lacks k) (shut k)))))
-refused_at d d' known content r k reads (inr (inr (at_place, want, found, is, why))) = absurd (spoilt_no_content d.seen at_place want found content (why k) reads)
+refused_at d d' known content r k reads (inl (inr (inr (at_place, want, found, is, why)))) = absurd (fault_no_content d.seen at_place want found content (why k) reads)
+refused_at d d' known content r k reads (inr (inl (is, why))) = inr (inr (inr (is, ap (λ n. n + 1) (why k content reads))))
+refused_at d d' known content r k reads (inr (inr (is, lacks, shut))) = inr (inr (inl (is, used_of d.seen content reads (lacks k) (shut k))))
 
 pub refused_open : {D : Type 0} (g : Ghosts D) (old new : D) (known : Type 0) (content : Content) (r : Refusal) → known → Reads (g.seen old) content → OpenRefused (Rose (g.faults old) (g.faults new)) known (g.seen old) r
     → RefusesOpening (point_of g (start content) old) (device_of g new) r
@@ -119,9 +105,11 @@ refused_open g old new known content r k reads why = refused_at (device_of g old
 
 -- why a device that reads is not read by a reader
 pub reader_refused_at : (d d' : Device) (known : Type 0) (content : Content) (r : Refusal) → known → Reads d.seen content → ReaderRefused (Rose d.faults d'.faults) known d.seen r → RefusesOpening (at d (start content)) d' r
-reader_refused_at d d' known content r k reads (inl why) = refused_at d d' known content r k reads (inl why)
-reader_refused_at d d' known content r k (inl (blank, none)) (inr (is, lacks, shut)) = absurd (shut k blank)
-reader_refused_at d d' known content r k (inr (s, on, same)) (inr (is, lacks, shut)) = inr (inr (inr (inl (is, (s, on, lacks k s on)))))
+reader_refused_at d d' known content r k reads (inl (inl failed)) = inl failed
+reader_refused_at d d' known content r k reads (inl (inr (inl none))) = inr (inl none)
+reader_refused_at d d' known content r k reads (inl (inr (inr (at_place, want, found, is, why)))) = absurd (whole_damage_no_content d.seen at_place want found content (why k) reads)
+reader_refused_at d d' known content r k reads (inr (inl (is, why))) = inr (inr (inr (is, ap (λ n. n + 1) (why k content reads))))
+reader_refused_at d d' known content r k reads (inr (inr (is, lacks, shut))) = inr (inr (inl (is, used_of d.seen content reads (lacks k) (shut k))))
 
 pub refused_reader : {D : Type 0} (g : Ghosts D) (old new : D) (known : Type 0) (content : Content) (r : Refusal) → known → Reads (g.seen old) content → ReaderRefused (Rose (g.faults old) (g.faults new)) known (g.seen old) r
     → RefusesOpening (point_of g (start content) old) (device_of g new) r
@@ -131,25 +119,17 @@ refused_reader g old new known content r k reads why = reader_refused_at (device
 pub reader_fault : (fault known : Type 0) (bytes : List ℕ) (r : Refusal) → ReaderRefused fault known bytes r → r ≡ DiskFault → fault
 reader_fault fault known bytes r (inl (inl (is, failed))) told = failed
 reader_fault fault known bytes r (inl (inr (inl is))) told = let e : NoMemory ≡ DiskFault = sym is ∙ told in absurd cc
-reader_fault fault known bytes r (inl (inr (inr (inl (is, why))))) told = let e : Refusal_Limit Checkpoints ≡ DiskFault = sym is ∙ told in absurd cc
-reader_fault fault known bytes r (inl (inr (inr (inr (inl (is, why, shut)))))) told = let e : Refusal_Limit Image ≡ DiskFault = sym is ∙ told in absurd cc
-reader_fault fault known bytes r (inl (inr (inr (inr (inr (at_place, want, found, is, why)))))) told = let e : Corrupt at_place want found ≡ DiskFault = sym is ∙ told in absurd cc
-reader_fault fault known bytes r (inr (is, lacks, shut)) told = let e : Refusal_Limit Tables ≡ DiskFault = sym is ∙ told in absurd cc
+reader_fault fault known bytes r (inl (inr (inr (at_place, want, found, is, why)))) told = let e : Corrupt at_place want found ≡ DiskFault = sym is ∙ told in absurd cc
+reader_fault fault known bytes r (inr (inl (is, why))) told = let e : Refusal_Limit Checkpoints ≡ DiskFault = sym is ∙ told in absurd cc
+reader_fault fault known bytes r (inr (inr (is, lacks, shut))) told = let e : Refusal_Limit Tables ≡ DiskFault = sym is ∙ told in absurd cc
 
 -- the same of a device that a reader was opened on
-pub reader_may_open : (d : Device) (h : Held) (content : Content) → IsReaderOf d.seen h → ((s : Stored) → IsOn d.seen s → HasNumbersLeft s.kept) → Reads d.seen content → MayOpen (at d (start content))
-reader_may_open d h content reader numbers reads = record {
-  narrow = λ wide. wide_not wide.0 wide.1 wide.2 reader;
+pub reader_may_open : (d : Device) (content : Content) → ((s : Stored) → IsOn d.seen s → HasNumbersLeft s.kept) → Reads d.seen content → MayOpen (at d (start content))
+reader_may_open d content numbers reads = record {
   numbers = λ used. absurd (omega (arith, used.2, (numbers used.0 used.1).1));
   run = λ same. by_content reads same;
 }
   where
-    wide_not : (s : Stored) → IsOn d.seen s → (IsBare s.kept → ⊥) → IsReaderOf d.seen h → ⊥
-    wide_not s on wide (inl (blank, none)) = let e : None ≡ Some s.slot = chooses_one d.seen None (Some s.slot) blank.shut on.chosen in absurd cc
-    wide_not s on wide (inr (place, a, surveyed, is)) =
-        let names = surveyed.names in
-        wide (subst (λ (x : Record). IsBare x) (sym (kept_is d.seen surveyed.slot s a.record names.chosen names.is_record names.is on)) surveyed.bare)
-
     by_content : Reads d.seen content → (start content).run ≡ last_number + 1 → ⊥
     by_content (inl (blank, is)) same = let none : content.run ≡ 0 = ap (λ (c : Content). c.run) is in omega (arith, same, none)
     by_content (inr (s, on, is)) same = let run : content.run ≡ s.kept.run = ap (λ (c : Content). c.run) is in omega (arith, same, run, (numbers s on).0)
@@ -345,32 +325,30 @@ module _ {D : Type 0} (g : Ghosts D) (old mid new : D) (looked : Looked g old mi
       telling_as (TellsOfScript (IsTrue (g.honest mid)) (g.seen new)) (IsSoFor script (IsTrue (g.honest old)) (g.seen old) (g.seen new)) e status (λ r told. script_so (IsTrue (g.honest mid)) (IsTrue (g.honest old)) (g.seen old) (g.seen new) r (λ h. looked.same ∙ h) told) t
 
 -- damage that an opening tells is there
-recovery_so : (asked : Asked) (fault known : Type 0) (bytes now : List ℕ) (r : Refusal) → RecoveryRefused fault known bytes r → IsSoFor asked known bytes now r
-recovery_so asked fault known bytes now r (inl (is, failed)) = subst (IsSoFor asked known bytes now) (sym is) tt
-recovery_so asked fault known bytes now r (inr (inl is)) = subst (IsSoFor asked known bytes now) (sym is) tt
-recovery_so asked fault known bytes now r (inr (inr (inl (is, why)))) = subst (IsSoFor asked known bytes now) (sym is) tt
-recovery_so asked fault known bytes now r (inr (inr (inr (inl (is, why, shut))))) = subst (IsSoFor asked known bytes now) (sym is) tt
-recovery_so asked fault known bytes now r (inr (inr (inr (inr (at_place, want, found, is, why))))) = subst (IsSoFor asked known bytes now) (sym is) (λ k. inl (why k))
-
 pub opening_so : (asked : Asked) (fault known : Type 0) (bytes now : List ℕ) (r : Refusal) → IsOnEngine asked → OpenRefused fault known bytes r → IsSoFor asked known bytes now r
-opening_so asked fault known bytes now r on (inl why) = recovery_so asked fault known bytes now r why
-opening_so asked fault known bytes now r on (inr (inl (is, lacks, shut))) = subst (IsSoFor asked known bytes now) (sym is) tt
-opening_so asked fault known bytes now r on (inr (inr (at_place, want, found, is, spoilt))) =
-    subst (IsSoFor asked known bytes now) (sym is) (λ k. inr (inr (engine_leaf asked bytes now at_place want found on (leaf_fault bytes at_place want found (spoilt k)))))
+opening_so asked fault known bytes now r on (inl (inl (is, failed))) = subst (IsSoFor asked known bytes now) (sym is) tt
+opening_so asked fault known bytes now r on (inl (inr (inl is))) = subst (IsSoFor asked known bytes now) (sym is) tt
+opening_so asked fault known bytes now r on (inl (inr (inr (at_place, want, found, is, why)))) = subst (IsSoFor asked known bytes now) (sym is) (λ k. told (why k))
+  where
+    told : IsAtFault bytes at_place want found → IsWholeDamage bytes at_place want found ⊎ (IsWholeDamage now at_place want found ⊎ IsToldOf asked bytes now at_place want found)
+    told (inl damage) = inl damage
+    told (inr spoilt) = inr (inr (engine_leaf asked bytes now at_place want found on (leaf_fault bytes at_place want found spoilt)))
+opening_so asked fault known bytes now r on (inr (inl (is, why))) = subst (IsSoFor asked known bytes now) (sym is) tt
+opening_so asked fault known bytes now r on (inr (inr (is, lacks, shut))) = subst (IsSoFor asked known bytes now) (sym is) tt
 
 -- why a reader is not opened, seen from further back
 pub reader_further : (fault more known honest : Type 0) (bytes : List ℕ) (r : Refusal) → (fault → more) → (honest → known) → ReaderRefused fault known bytes r → ReaderRefused more honest bytes r
-reader_further fault more known honest bytes r to from (inl (inl (is, failed))) = inl (inl (is, to failed))
-reader_further fault more known honest bytes r to from (inl (inr (inl is))) = inl (inr (inl is))
-reader_further fault more known honest bytes r to from (inl (inr (inr (inl (is, why))))) = inl (inr (inr (inl (is, λ h. why (from h)))))
-reader_further fault more known honest bytes r to from (inl (inr (inr (inr (inl (is, why, shut)))))) = inl (inr (inr (inr (inl (is, (λ h. why (from h)), λ h. shut (from h))))))
-reader_further fault more known honest bytes r to from (inl (inr (inr (inr (inr (at, want, found, is, why)))))) = inl (inr (inr (inr (inr (at, want, found, is, λ h. why (from h))))))
-reader_further fault more known honest bytes r to from (inr (is, lacks, shut)) = inr (is, (λ h. lacks (from h)), λ h. shut (from h))
+reader_further fault more known honest bytes r to from (inl why) = inl (refused_more fault more known honest (IsWholeDamage bytes) (IsWholeDamage bytes) r to from (λ at want found h damage. damage) why)
+reader_further fault more known honest bytes r to from (inr (inl (is, why))) = inr (inl (is, λ h. why (from h)))
+reader_further fault more known honest bytes r to from (inr (inr (is, lacks, shut))) = inr (inr (is, (λ h. lacks (from h)), λ h. shut (from h)))
 
 -- damage that the opening of a reader tells is there
 pub reader_so : (asked : Asked) (fault known : Type 0) (bytes now : List ℕ) (r : Refusal) → ReaderRefused fault known bytes r → IsSoFor asked known bytes now r
-reader_so asked fault known bytes now r (inl why) = recovery_so asked fault known bytes now r why
-reader_so asked fault known bytes now r (inr (is, lacks, shut)) = subst (IsSoFor asked known bytes now) (sym is) tt
+reader_so asked fault known bytes now r (inl (inl (is, failed))) = subst (IsSoFor asked known bytes now) (sym is) tt
+reader_so asked fault known bytes now r (inl (inr (inl is))) = subst (IsSoFor asked known bytes now) (sym is) tt
+reader_so asked fault known bytes now r (inl (inr (inr (at_place, want, found, is, why)))) = subst (IsSoFor asked known bytes now) (sym is) (λ k. inl (why k))
+reader_so asked fault known bytes now r (inr (inl (is, why))) = subst (IsSoFor asked known bytes now) (sym is) tt
+reader_so asked fault known bytes now r (inr (inr (is, lacks, shut))) = subst (IsSoFor asked known bytes now) (sym is) tt
 
 pub status_some : (r : Refusal) (status : ℕ) → (status ≡ status_of r) ⊎ (status ≡ 12) → status ≡ 0 → ⊥
 status_some r status (inr twelve) none = omega (arith, twelve, none)

@@ -128,7 +128,7 @@ refused_verify g old new known content r k reads (inr (inr (at, want, found, is,
 pub verify_so : (uri : Option (List ℕ)) (fault known : Type 0) (bytes now : List ℕ) (r : Refusal) → VerifyRefused fault known bytes r → IsSoFor (verify uri) known bytes now r
 verify_so uri fault known bytes now r (inl (inl (is, failed))) = subst (IsSoFor (verify uri) known bytes now) (sym is) tt
 verify_so uri fault known bytes now r (inl (inr (inl is))) = subst (IsSoFor (verify uri) known bytes now) (sym is) tt
-verify_so uri fault known bytes now r (inl (inr (inr (at, want, found, is, why)))) = subst (IsSoFor (verify uri) known bytes now) (sym is) (λ k. inr (inr (why k)))
+verify_so uri fault known bytes now r (inl (inr (inr (at, want, found, is, why)))) = subst (IsSoFor (verify uri) known bytes now) (sym is) (λ k. inl (why k))
 verify_so uri fault known bytes now r (inr (inl is)) = subst (IsSoFor (verify uri) known bytes now) (sym is) tt
 verify_so uri fault known bytes now r (inr (inr is)) = subst (IsSoFor (verify uri) known bytes now) (sym is) tt
 

@@ -169,6 +169,6 @@ module _ {D : Type 0} (g : Ghosts D) (s s' : Store) (before after : D) (none : l
   load_told false r x went looked new old fault = subst (λ (y : Refusal). LoadWent g s s' before after (Err y)) (sym (old refl)) (load_call r (looked refl))
 
 -- a refusal that is no damage
-pub calm_of : (r : Refusal) → ((at want found : ℕ) → r ≡ Corrupt at want found → ⊥) → NoDamage r
-calm_of (Corrupt at want found) other = other at want found refl
-calm_of _ other = tt
+pub undamaged_of : (r : Refusal) → ((at want found : ℕ) → r ≡ Corrupt at want found → ⊥) → NoDamage r
+undamaged_of (Corrupt at want found) other = other at want found refl
+undamaged_of _ other = tt

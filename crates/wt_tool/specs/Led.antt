@@ -10,7 +10,6 @@ use Rattle.kv_model.specs.Calls.{Actor, Session, Call, Begin, PutKey, Commit, Op
 use Rattle.kv_model.specs.Decisions.{Demand}
 use Rattle.kv_model.specs.Machine.{Completed, Machine}
 use Rattle.engine_world.specs.Worlds.{World, Resting, doing_of}
-use Rattle.ckpt_step.specs.Plain.{IsPlain}
 use Rattle.engine_store.specs.declared.eviction.TheConstants.{FRAMES}
 use Rattle.engine_store.specs.declared.frames.Frames.TheVariants.{Soft}
 use Rattle.engine_store.specs.declared.store.Store.{Store}
@@ -31,11 +30,10 @@ pub record IsQuiet (w : World) : Type 0 where
 
 -- start: the disk as the command opened it; first: the checkpoint that it had then
 module _ {D : Type 0} (g : Ghosts D) (start_disk : D) (first : Completed) where
-  -- The command holds its store between two calls: it installed no checkpoint, no commit had a stamp, the engine is up, and frames are added where a call needs them.
+  -- The command holds its store between two calls: it installed no checkpoint, the engine is up, and frames are added where a call needs them.
   pub record Holds (s : Store) (disk : D) (w : World) : Type 0 where
     pub held : IsHeld g start_disk s disk w first []
     pub quiet : IsQuiet w
-    pub plain : IsPlain w.machine
     pub completed : w.machine.completed ≡ first
     pub up : w.machine.fault ≡ None
     pub soft : s.frames ≡ Soft FRAMES

@@ -6,25 +6,23 @@ use Rattle.item.specs.declared.formats.Formats.{Formats}
 use Rattle.wt_code.specs.declared.refusals.Refusal.{Refusal}
 use Rattle.wt_code.specs.declared.refusals.Refusal.TheVariants.{NoMemory, DiskFault, Invalid as Refusal_Invalid, Limit as Refusal_Limit}
 use Rattle.wt_code.specs.declared.refusals.Invalid.TheVariants.{BadName, BadConfig}
-use Rattle.wt_code.specs.declared.refusals.Limit.TheVariants.{Image, Tables, Checkpoints}
+use Rattle.wt_code.specs.declared.refusals.Limit.TheVariants.{Tables, Checkpoints}
 use Rattle.kv_model.specs.History.{tables, named}
 use Rattle.kv_model.specs.Machine.{Machine}
 use Rattle.wt_tool.specs.Words.{AsksFor, name_in, plain_formats}
 use Rattle.wt_tool.specs.Points.{Point, Ran, stops}
-use Rattle.engine_store.specs.Devices.{Device, IsLater, last_number, IsWide, IsUsedUp}
+use Rattle.engine_store.specs.Devices.{Device, IsLater, last_number, IsUsedUp}
 
 -- why an opening of a device that reads is refused
 abbrev pub RefusesOpening : Point → Device → Refusal → Type 0
 RefusesOpening p now r =
     ((r ≡ DiskFault) × Rose p.device.faults now.faults)
     ⊎ ((r ≡ NoMemory)
-    ⊎ (((r ≡ Refusal_Limit Image) × IsWide p.device.seen)
     ⊎ (((r ≡ Refusal_Limit Tables) × IsUsedUp p.device.seen)
-    ⊎ ((r ≡ Refusal_Limit Checkpoints) × (p.machine.run ≡ last_number + 1)))))
+    ⊎ ((r ≡ Refusal_Limit Checkpoints) × (p.machine.run ≡ last_number + 1))))
 
 -- an opening that is not refused for what the device holds
 pub record MayOpen (p : Point) : Type 0 where
-  pub narrow : IsWide p.device.seen → ⊥
   pub numbers : IsUsedUp p.device.seen → ⊥
   pub run : p.machine.run ≢ last_number + 1
 

@@ -7,7 +7,7 @@ use Rattle.disk_model.specs.declared.disk.Disk.{Ghosts}
 use Rattle.wt_code.specs.declared.refusals.Refusal.{Refusal}
 use Rattle.wt_code.specs.declared.refusals.Refusal.TheVariants.{Corrupt, DiskFault, NoMemory}
 use Rattle.kv_model.specs.Machine.{Machine, Completed}
-use Rattle.kv_model.specs.Content.{Content, start}
+use Rattle.kv_model.specs.Content.{Content, IsLayered, start}
 use Rattle.wt_io.specs.Streams.{AtEnd, Gave}
 use Rattle.wt_io.specs.declared.streams.Source.{Ghosts as SourceGhosts}
 use Rattle.wt_io.specs.declared.streams.Sink.{Ghosts as SinkGhosts}
@@ -101,9 +101,9 @@ pub record Reading (Allowed : Point → Ran → Type 0) (p : Point) (now : Devic
   pub there : ran.next.device ≡ now
   pub same : ran.next.machine.completed ≡ p.machine.completed
 
--- The store is as an opening makes it of an honest disk: where that reads, of what it holds. Calls go on from its hub.
+-- The store is as an opening makes it of an honest disk: where that reads with layers, of what it holds. Calls go on from its hub.
 pub record IsOpenedOn {D : Type 0} (g : Ghosts D) (disk : D) (s : Store) : Type 0 where
-  pub reads : (content : Content) → Reads (g.seen disk) content → IsOpened (g.seen disk) (g.may_leave disk) s
+  pub reads : (content : Content) → Reads (g.seen disk) content → IsLayered content → IsOpened (g.seen disk) (g.may_leave disk) s
   pub spoils : SpoilsAreThere (g.seen disk) s
   pub outset : IsOutset s.engine.hub
   -- a call never finds each frame with a leaf that may not go

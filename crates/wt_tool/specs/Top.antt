@@ -12,7 +12,6 @@ use Rattle.wt_code.specs.declared.refusals.Refusal.TheVariants.{NoMemory, DiskFa
 use Rattle.wt_code.specs.Text.{text_of_refusal}
 use Rattle.kv_model.specs.Content.{Content, start}
 use Rattle.stored.specs.Stored.{Reads}
-use Rattle.recover_open.specs.Damage.{IsDamage}
 use Rattle.recover_open.specs.Wholes.{IsWholeDamage}
 use Rattle.device_read.specs.Readers.{Held, IsReaderOf}
 use Rattle.device_read.specs.Refusals.{LeafIsAtFault}
@@ -33,7 +32,7 @@ use Rattle.wt_tool.specs.Damaged.{RunsOn, device_on, point_on}
 abbrev pub IsOpenable : List ℕ → Type 0
 IsOpenable bytes = (content : Content) × Reads bytes content
 
--- what any other command reads of it at first is: the record and the inner pages
+-- what any other command reads of it at first is: the record, the inner pages and the history
 abbrev pub IsReadable : List ℕ → Type 0
 IsReadable bytes = (h : Held) × IsReaderOf bytes h
 
@@ -152,15 +151,15 @@ pub record WentOn {D : Type 0} (g : Ghosts D) (o : Outside) (asked : Asked) (who
   pub kept : ran.next.machine.completed ≡ (start content).completed
   pub looked : Looked g old new
 
--- of what else a command may tell damage: of a leaf to which the checkpoint of the device leads, as the run began, or of a script also as it ended; and `verify` of all that the device holds as it began
+-- of what else a command may tell damage: of a leaf to which the checkpoint of the device leads, as the run began, or of a script also as it ended; `verify`, which reads all, of nothing else
 abbrev pub IsToldOf : Asked → List ℕ → List ℕ → (at want found : ℕ) → Type 0
-IsToldOf (verify uri) before now at want found = IsWholeDamage before at want found
+IsToldOf (verify uri) before now at want found = ⊥
 IsToldOf script before now at want found = LeafIsAtFault before at want found ⊎ LeafIsAtFault now at want found
 IsToldOf _ before now at want found = LeafIsAtFault before at want found
 
 -- What a refusal says of the device is so. Damage is told only where the device had it as the run began, or has it as it ended: a command that reads leaf by leaf tells of one leaf, whatever the others are.
 abbrev pub IsSoFor : Asked → (honest : Type 0) → List ℕ → List ℕ → Refusal → Type 0
-IsSoFor asked honest before now (Corrupt at want found) = honest → IsDamage before at want found ⊎ (IsDamage now at want found ⊎ IsToldOf asked before now at want found)
+IsSoFor asked honest before now (Corrupt at want found) = honest → IsWholeDamage before at want found ⊎ (IsWholeDamage now at want found ⊎ IsToldOf asked before now at want found)
 IsSoFor asked honest before now _ = Unit {0}
 
 -- the refusals and the end that the status and the errors tell, whatever the disk; this holds of each refusal
@@ -188,7 +187,7 @@ module _ {D S K E : Type 0} (g : Ghosts D) (s : SourceGhosts S) (k : SinkGhosts 
     pub usage_told : command_of words ≡ None → Tells (errors_of e err err_now) usage 1 status × Took (k.written out) (k.written out_now) [] × (input_now ≡ input) × (disk_now ≡ disk)
     -- Whatever the disk, the status is that of refusals whose lines are on the errors. Damage that they tell of an honest disk is there.
     pub told : (asked : Asked) → command_of words ≡ Some asked → Telling (IsSoFor asked (IsTrue (g.honest disk)) (g.seen disk) (g.seen disk_now)) (errors_of e err err_now) status
-    -- Status 0 and a printed byte come only from a command whose opening of the device is not refused for what it holds: the record and the inner pages, and of `verify` all of it.
+    -- Status 0 and a printed byte come only from a command whose opening of the device is not refused for what it holds: the record, the inner pages and the history, and of `verify` all of it.
     pub opened : IsTrue (g.honest disk) → status ≡ 0 → IsOpenableBy (command_of words) (g.seen disk)
     pub silent : IsTrue (g.honest disk) → Took (k.written out) (k.written out_now) [] ⊎ IsOpenableBy (command_of words) (g.seen disk)
     -- The disk is at the home that the words name.

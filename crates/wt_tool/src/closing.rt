@@ -13,8 +13,8 @@ use std::alloc::Global;
 use std::mem::forget;
 use wt_code::Refusal;
 
-// Closes the store of a command that gave no stamp. The command ends with it: the memory of the
-// store goes back as a whole, with the process.
+// Closes the store of a command. The command ends with it: the memory of the store goes back as a
+// whole, with the process.
 pub(crate) fn close<D: Disk>(alloc: Global, disk: &mut D, store: Store) -> Result<(), Refusal>
     requires ready { IsReady store }
     ensures run { Leading D.Disk store disk.old (λ start first w. IsLeft D.Disk start first (ClosesBeside store.ground.lives) (point_of D.Disk w.machine disk.old) disk.new result) }

@@ -11,7 +11,7 @@ ghost use Rattle.wt_tool.specs.Parts.{IsOpenedOn, LeavesFrom, TellsSpoilt};
 
 use crate::closing::close;
 use crate::names::{formats_asked, item_of, name_of};
-use ckpt_step::{calm_stays, checkpoints_are_kept, plain_stays};
+use ckpt_step::checkpoints_are_kept;
 use disk_model::Disk;
 use engine_store::Store;
 use item::Formats;
@@ -34,7 +34,6 @@ pub(crate) fn create<D: Disk>(
     ensures fault { IfErr result (λ r. r ≡ Refusal.DiskFault → Rose (D.faults disk.old) (D.faults disk.new)) }
     ensures disk { SameDisk D.Disk disk.old disk.new }
 {
-    plain_stays();
     let mut store = store;
     let Some(name) = name_of(uri.as_bytes()) else {
         return Err(Refusal::Invalid(Invalid::BadName));
@@ -60,7 +59,6 @@ pub(crate) fn make<D: Disk>(
     ensures went { (disk : D) → CallWent D.Disk store.old store.new disk disk result }
     ensures there { length store.new.engine.sessions ≡ length store.old.engine.sessions }
 {
-    calm_stays();
     checkpoints_are_kept();
     let Ok(table) = item_of(alloc, name) else {
         return Err(Refusal::NoMemory);

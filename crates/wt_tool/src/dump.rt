@@ -5,8 +5,8 @@ ghost use Rattle.disk_model.specs.Crash.{Looked};
 ghost use Rattle.kv_model.specs.Content.{Content};
 ghost use Rattle.row_page.specs.Rows.{Row};
 ghost use Rattle.row_page.specs.Views.{row_seen};
-ghost use Rattle.reconcile.specs.Held.{page_rows};
 ghost use Rattle.stored.specs.Stored.{Reads};
+ghost use Rattle.device_read.specs.Lent.{lent_rows};
 ghost use Rattle.device_read.specs.Readers.{IsReaderOf, HasPages, leaf_count, tables_in};
 ghost use Rattle.device_read.specs.Rows.{HasTables, put_row, put_rows};
 ghost use Rattle.dump_text.specs.Written.{row_lines, text_of};
@@ -20,10 +20,13 @@ ghost use Rattle.wt_tool.specs.Top.{Telling, errors_of};
 use crate::names::name_of;
 use crate::tables::table_named;
 use crate::telling::tell;
-use device_read::{Reader, missing_leaves_are_at_fault, readers_have_pages, readers_have_tables};
+use device_read::{
+    LeafRows, OpenedLeaf, Reader, missing_leaves_are_at_fault, readers_have_pages,
+    readers_have_tables,
+};
 use disk_model::Disk;
 use dump_text::{Form, dump_head, push_pair};
-use row_page::{Cell, CellChange, Leaf};
+use row_page::{Cell, CellChange};
 use script_run::End;
 use std::alloc::Global;
 use std::mem::forget;
@@ -191,7 +194,7 @@ fn print_leaf<D: Disk, K: Sink>(
 {
     missing_leaves_are_at_fault();
     match reader.leaf(alloc, disk, place, i) {
-        Ok(leaf) => print_page(alloc, out, text, leaf.page(), manner),
+        Ok(leaf) => print_page(alloc, out, text, &leaf, manner),
         Err(refusal) => Err(End::Stopped(refusal)),
     }
 }
@@ -201,27 +204,27 @@ fn print_page<K: Sink>(
     alloc: Global,
     out: &mut K,
     text: &mut Vec<u8>,
-    page: Option<&Leaf>,
+    page: &OpenedLeaf<'_>,
     manner: Manner,
 ) -> Result<(), End>
-    ensures printed { PutsBehind (Rose (K.fault_count out.old) (K.fault_count out.new)) ⊥ (K.written out.old) (K.written out.new) text.old.items text.new.items (rows_text manner.form (put_rows (along (way_of manner.reverse) (page_rows page.entry)))) result }
+    ensures printed { PutsBehind (Rose (K.fault_count out.old) (K.fault_count out.new)) ⊥ (K.written out.old) (K.written out.new) text.old.items text.new.items (rows_text manner.form (put_rows (along (way_of manner.reverse) page.now))) result }
     ensures later { K.fault_count out.old ≤ K.fault_count out.new }
 {
-    match page {
-        Some(page) => print_rows(alloc, out, text, page, manner),
-        None => Ok(()),
+    match page.rows(alloc) {
+        Ok(rows) => print_rows(alloc, out, text, &rows, manner),
+        Err(_) => Err(End::Stopped(Refusal::NoMemory)),
     }
 }
 
-// The same of a page that is there. `O(bytes)`, and nothing is copied but into the text.
+// Prints rows. `O(bytes)`, and nothing is copied but into the text.
 fn print_rows<K: Sink>(
     alloc: Global,
     out: &mut K,
     text: &mut Vec<u8>,
-    page: &Leaf,
+    page: &LeafRows<'_>,
     manner: Manner,
 ) -> Result<(), End>
-    ensures printed { PutsBehind (Rose (K.fault_count out.old) (K.fault_count out.new)) ⊥ (K.written out.old) (K.written out.new) text.old.items text.new.items (rows_text manner.form (put_rows (along (way_of manner.reverse) page.now))) result }
+    ensures printed { PutsBehind (Rose (K.fault_count out.old) (K.fault_count out.new)) ⊥ (K.written out.old) (K.written out.new) text.old.items text.new.items (rows_text manner.form (put_rows (along (way_of manner.reverse) (lent_rows page.now)))) result }
     ensures later { K.fault_count out.old ≤ K.fault_count out.new }
 {
     let count = page.len();

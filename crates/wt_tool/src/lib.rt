@@ -5,8 +5,8 @@
 //! tells its cause. Leaves the real file and the real streams to the program. A command that writes,
 //! or makes calls of its own, runs on an engine that starts on the device's checkpoint. `read`, `dump`
 //! and `list` answer from the device itself: they read all but the leaves, and of those the ones that
-//! they need. `verify` reads the device through, its history too, and keeps no row. The others refuse a
-//! device with a history as `75 limit image`. A script writes to the device only by its lines that take a checkpoint.
+//! they need, and the history beside them. `verify` reads the device through, and keeps no row. A script
+//! writes to the device only by its lines that take a checkpoint, and where leaves leave memory.
 #![tactic(auto)]
 
 mod closing;

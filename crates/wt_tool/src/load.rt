@@ -22,7 +22,6 @@ use crate::sessions::{call, open};
 use crate::telling::tell;
 use crate::write::{commit, demand_for};
 use byte_order::order;
-use ckpt_step::plain_stays;
 use disk_model::Disk;
 use dump_text::{DumpRows, read_dump};
 use engine_store::Store;
@@ -135,7 +134,6 @@ fn load_text<D: Disk>(
     ensures fault { IfErr result (λ r. r ≡ Refusal.DiskFault → Rose (D.faults disk.old) (D.faults disk.new)) }
     ensures disk { SameDisk D.Disk disk.old disk.new }
 {
-    plain_stays();
     let mut store = store;
     let dumped = match read_dump(alloc, &text, ended) {
         Ok(dumped) => dumped,
@@ -267,7 +265,7 @@ fn is_above(key: &Item, other: &Item) -> bool {
 fn told_as(refusal: Refusal, is_new: bool) -> Refusal
     ensures new { is_new ≡ true → NoDamage result }
     ensures old { is_new ≡ false → result ≡ refusal }
-    ensures calm { NoDamage refusal → result ≡ refusal }
+    ensures undamaged { NoDamage refusal → result ≡ refusal }
     ensures fault { result ≡ Refusal.DiskFault → refusal ≡ Refusal.DiskFault }
 {
     match refusal {
@@ -316,7 +314,7 @@ fn put_next<D: Disk>(
     requires there { 0 < length store.old.engine.sessions }
     requires ready { IsReady store.old }
     ensures led { (rows : List Row) → Leading D.Disk store.old disk.old (λ start first w. LedBy D.Disk start first w store.new disk.old disk.new (PutsRows name.now (demand_of overwrite) ((key, value) ∷ rows)) (PutsRows name.now (demand_of overwrite) rows) result) }
-    ensures calm { Leading D.Disk store.old disk.old (λ start first w. IfErr result NoDamage) }
+    ensures undamaged { Leading D.Disk store.old disk.old (λ start first w. IfErr result NoDamage) }
     ensures went { OutWent D.Disk store.old store.new disk.old disk.new result }
     ensures looked { due ≡ false → CallWent D.Disk store.old store.new disk.old disk.new result }
     ensures there { length store.new.engine.sessions ≡ length store.old.engine.sessions }
@@ -382,7 +380,7 @@ fn put_row<D: Disk>(
     requires there { 0 < length store.old.engine.sessions }
     requires ready { IsReady store.old }
     ensures led { (rows : List Row) → Leading D.Disk store.old disk.old (λ start first w. LedBy D.Disk start first w store.new disk.old disk.new (PutsRow table (demand_of overwrite) (key, value) (PutsRows table (demand_of overwrite) rows)) (PutsRows table (demand_of overwrite) rows) result) }
-    ensures calm { Leading D.Disk store.old disk.old (λ start first w. IfErr result NoDamage) }
+    ensures undamaged { Leading D.Disk store.old disk.old (λ start first w. IfErr result NoDamage) }
     ensures went { CallWent D.Disk store.old store.new disk.old disk.new result }
     ensures there { length store.new.engine.sessions ≡ length store.old.engine.sessions }
 {

@@ -32,8 +32,8 @@ pub(crate) fn reach<D: Home>(alloc: Global, disk: &mut D, home: &str) -> Result<
     }
 }
 
-// Attaches the disk, and makes a reader of what it holds: the record and the inner pages are read, and
-// no leaf. It changes nothing, and makes no engine.
+// Attaches the disk, and makes a reader of what it holds: the record, the inner pages and the history are
+// read, and no leaf of a table. It changes nothing, and makes no engine.
 pub(crate) fn reach_reader<D: Home>(
     alloc: Global,
     disk: &mut D,

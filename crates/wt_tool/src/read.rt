@@ -17,7 +17,7 @@ use crate::names::{name_of, stored_as};
 use crate::status::Status;
 use crate::tables::{TableAt, formats_of, table_named};
 use crate::telling::report;
-use device_read::{Reader, missing_leaves_are_at_fault, readers_have_tables};
+use device_read::{Reader, missing_leaves_are_at_fault, readers_have_tables, readers_have_values};
 use disk_model::Disk;
 use item::Item;
 use item_forms::written_as;
@@ -120,6 +120,7 @@ fn get<D: Disk>(
     ensures home { D.home disk.new ≡ D.home disk.old }
 {
     readers_have_tables();
+    readers_have_values();
     missing_leaves_are_at_fault();
     let _named = name;
     let Ok(key) = stored_as(alloc, formats_of(table).key, key) else {

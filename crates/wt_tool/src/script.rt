@@ -10,7 +10,6 @@ ghost use Rattle.wt_tool.specs.Top.{IsStatus, Telling, errors_of, first_status};
 
 use crate::status::Status;
 use crate::telling::report;
-use ckpt_step::{calm_stays, plain_stays};
 use disk_model::Disk;
 use engine_store::Store;
 use script_run::{End, ScriptRun, run_script};
@@ -38,8 +37,6 @@ pub(crate) fn script<D: Disk, S: Source, K: Sink, E: Sink>(
     ensures output_fault { result ≡ 6 → Rose (K.fault_count out.old) (K.fault_count out.new) }
     ensures disk { SameDisk D.Disk disk.old disk.new }
 {
-    plain_stays();
-    calm_stays();
     let mut store = store;
     // What the actors of the system have started is known of every engine.
     store.engine.actors();

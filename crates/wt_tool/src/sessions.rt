@@ -10,7 +10,7 @@ ghost use Rattle.wt_tool.specs.Parts.{NoDamage};
 ghost use Rattle.engine_store.specs.Opened.{IsReady};
 
 use crate::names::plain_formats;
-use ckpt_step::{calm_stays, checkpoints_are_kept};
+use ckpt_step::checkpoints_are_kept;
 use disk_model::Disk;
 use engine_store::Store;
 use item::Formats;
@@ -25,7 +25,6 @@ pub(crate) fn open<D: Disk>(alloc: Global, store: &mut Store) -> Result<(), Refu
     ensures went { (disk : D) → CallWent D.Disk store.old store.new disk disk result }
     ensures there { OnOk result (0 < length store.new.engine.sessions) }
 {
-    calm_stays();
     checkpoints_are_kept();
     match store.open_session::<D>(alloc) {
         Ok(_) => Ok(()),
@@ -45,11 +44,10 @@ pub(crate) fn call<D: Disk>(
     requires there { 0 < length store.old.engine.sessions }
     requires ready { IsReady store.old }
     ensures led { Leading D.Disk store.old disk.old (λ start first w. DoneBy D.Disk start first w store.new disk.old disk.new (BySession 0) (session_call_in call) result) }
-    ensures calm { Leading D.Disk store.old disk.old (λ start first w. IfErr result NoDamage) }
+    ensures undamaged { Leading D.Disk store.old disk.old (λ start first w. IfErr result NoDamage) }
     ensures went { CallWent D.Disk store.old store.new disk.old disk.new result }
     ensures there { length store.new.engine.sessions ≡ length store.old.engine.sessions }
 {
-    calm_stays();
     checkpoints_are_kept();
     match store.call(alloc, disk, 0, call) {
         Answer::Refused(refusal) => Err(refusal),

@@ -16,7 +16,6 @@ ghost use Rattle.wt_tool.specs.Led.{CallWent, DoneBy, IsWord, Leading, LedBy, Pu
 use crate::closing::close;
 use crate::names::{item_of, name_of, stored_as};
 use crate::sessions::{call, formats_for, open};
-use ckpt_step::plain_stays;
 use disk_model::Disk;
 use engine_store::Store;
 use std::alloc::Global;
@@ -39,7 +38,6 @@ pub(crate) fn write<D: Disk>(
     ensures fault { IfErr result (λ r. r ≡ Refusal.DiskFault → Rose (D.faults disk.old) (D.faults disk.new)) }
     ensures disk { SameDisk D.Disk disk.old disk.new }
 {
-    plain_stays();
     let mut store = store;
     let Some(name) = name_of(uri.as_bytes()) else {
         return Err(Refusal::Invalid(Invalid::BadName));
@@ -133,7 +131,7 @@ pub(crate) fn commit<D: Disk>(alloc: Global, disk: &mut D, store: &mut Store) ->
     requires there { 0 < length store.old.engine.sessions }
     requires ready { IsReady store.old }
     ensures led { Leading D.Disk store.old disk.old (λ start first w. DoneBy D.Disk start first w store.new disk.old disk.new (BySession 0) (Commit None None) result) }
-    ensures calm { Leading D.Disk store.old disk.old (λ start first w. IfErr result NoDamage) }
+    ensures undamaged { Leading D.Disk store.old disk.old (λ start first w. IfErr result NoDamage) }
     ensures went { CallWent D.Disk store.old store.new disk.old disk.new result }
     ensures there { length store.new.engine.sessions ≡ length store.old.engine.sessions }
 {

@@ -1,5 +1,5 @@
 // Lines that reach the device.
-use super::{Row, Story};
+use super::Story;
 
 const OK2: &str = "ok\nok\n";
 
@@ -147,24 +147,113 @@ pub(super) const DEVICES: &[Story<'static>] = &[
     },
 ];
 
-// A checkpoint and a close are no lines once the text of one before committed with a stamp, even
-// where that was refused.
-pub(super) const STAMPED: &[Row<'static>] = &[
-    Row {
-        text: "sys create t S S\ns1 begin\ns1 put t a 1\ns1 commit commit=a\nsys ckpt\n",
-        told: "ok\nok\nok\nok\nStopped(Invalid(Text { line: 5 })) None",
+// The key `a` is set to x at the stamp a, and to y at 14.
+const SET_AT_A: (&str, &str) = ("s9 begin\ns9 put t a x\ns9 commit commit=a\n", OK3);
+
+const SET_AT_14: (&str, &str) = ("s9 begin\ns9 put t a y\ns9 commit commit=14\n", OK3);
+
+// What a checkpoint keeps, when the device is opened behind a crash.
+const KEPT: (&str, &str) = ("sys ckpt\nsys crash\n", OK2);
+
+pub(super) const STAMPED: &[Story<'static>] = &[
+    Story {
+        shows: "what is not durable at stable when a checkpoint is taken gives way to the version before it",
+        rows: &[
+            SET_AT_A,
+            SET_AT_14,
+            ("sys set stable=a\n", "ok\n"),
+            KEPT,
+            ("s1 begin\ns1 get t a\n", "ok\nok x\n"),
+        ],
     },
-    Row {
-        text: "s1 commit durable=a\nsys close\n",
-        told: "22 no transaction\nStopped(Invalid(Text { line: 2 })) None",
+    Story {
+        shows: "so where the leaf was evicted before",
+        rows: &[
+            SET_AT_A,
+            SET_AT_14,
+            ("sys evict t a\nsys set stable=a\n", OK2),
+            KEPT,
+            ("s1 begin\ns1 get t a\n", "ok\nok x\n"),
+        ],
     },
-    Row {
-        text: "s1! commit commit=a\nsys crash\nsys ckpt\n",
-        told: "started\nok\nStopped(Invalid(Text { line: 3 })) None",
+    Story {
+        shows: "where there is none before it the key is absent",
+        rows: &[
+            ("s1 begin\ns1 put t a x\ns1 prepare a\n", OK3),
+            ("s1 commit commit=a durable=1e\n", "ok\n"),
+            ("sys set stable=14\n", "ok\n"),
+            KEPT,
+            ("s1 begin\ns1 get t a\n", "ok\n-31803 not found\n"),
+        ],
     },
-    Row {
-        text: "sys set stable=a\ns1 begin read=b\ns1 commit\nsys ckpt\nsys close\n",
-        told: "ok\nok\nok\nok\nok\nThrough None",
+    Story {
+        shows: "a checkpoint keeps nothing of a transaction that is prepared",
+        rows: &[
+            ("s1 begin\ns1 put t a x\ns1 prepare a\n", OK3),
+            KEPT,
+            ("s1 begin\ns1 get t a\n", "ok\n-31803 not found\n"),
+        ],
+    },
+    Story {
+        shows: "older versions are read behind an opening as before it",
+        rows: &[
+            SET_AT_A,
+            SET_AT_14,
+            ("sys set stable=14\n", "ok\n"),
+            KEPT,
+            (
+                "s1 begin read=9\ns1 get t a\ns1 rollback\n",
+                "ok\n-31803 not found\nok\n",
+            ),
+            (
+                "s1 begin read=13\ns1 get t a\ns1 rollback\n",
+                "ok\nok x\nok\n",
+            ),
+            ("s1 begin read=14\ns1 get t a\n", "ok\nok y\n"),
+        ],
+    },
+    Story {
+        shows: "so behind a second one, and behind a close",
+        rows: &[
+            SET_AT_A,
+            SET_AT_14,
+            ("sys set stable=14\n", "ok\n"),
+            KEPT,
+            ("sys close\nsys crash\n", OK2),
+            (
+                "s1 begin read=13\ns1 get t a\ns1 rollback\n",
+                "ok\nok x\nok\n",
+            ),
+            ("s1 begin read=14\ns1 get t a\n", "ok\nok y\n"),
+        ],
+    },
+    Story {
+        shows: "a removal with a stamp is undone as a put is",
+        rows: &[
+            SET_AT_A,
+            ("s1 begin\ns1 remove t a\ns1 commit commit=14\n", OK3),
+            ("sys set stable=a\nsys close\n", OK2),
+            ("s1 begin\ns1 get t a\n", "ok\nok x\n"),
+        ],
+    },
+    Story {
+        shows: "without stable each version is kept",
+        rows: &[
+            SET_AT_A,
+            SET_AT_14,
+            KEPT,
+            ("s1 begin\ns1 get t a\ns1 rollback\n", "ok\nok y\nok\n"),
+            ("s1 begin read=a\ns1 get t a\n", "ok\nok x\n"),
+        ],
+    },
+    Story {
+        shows: "a transaction that runs on commits behind a checkpoint, which has what it found",
+        rows: &[
+            SET_AT_A,
+            ("s1 begin\ns1 put t a y\nsys ckpt\n", OK3),
+            ("s1 commit commit=14\nsys crash\n", OK2),
+            ("s1 begin\ns1 get t a\n", "ok\nok x\n"),
+        ],
     },
 ];
 

@@ -19,6 +19,27 @@ const FORGETS_B: &[Row<'static>] = &[
 
 const FORGETS_A: &[Row<'static>] = &[("read|t|a", 1, "-31803 not found\n", "")];
 
+// Each command that reads shows the same value, and a write without a stamp is refused.
+const HAS_X: &[Row<'static>] = &[
+    ("verify|t", 0, "", ""),
+    ("read|t|a", 0, "", "x\n"),
+    (
+        "dump|-x|t",
+        0,
+        "",
+        "WiredTiger Dump (row store 1)\nFormat=hex\nHeader\ntable:t\nkey_format=S,value_format=S\nData\n6100\n7800\n",
+    ),
+    ("write|t|a|z", 1, "-31801 duplicate key\n", ""),
+    ("write|-o|t|a|z", 1, "22 no stamp after stamp\n", ""),
+];
+
+const HAS_NOTHING: &[Row<'static>] = &[
+    ("verify|t", 0, "", ""),
+    ("read|t|a", 1, "-31803 not found\n", ""),
+    ("write|t|a|z", 0, "", ""),
+    ("read|t|a", 0, "", "z\n"),
+];
+
 const STORIES: &[Story<'static>] = &[
     // A crash forgets what was committed since the checkpoint, and each session.
     Story {
@@ -56,17 +77,65 @@ const STORIES: &[Story<'static>] = &[
         },
         behind: FORGETS_A,
     },
-    // A checkpoint is no line once the text has committed with a stamp.
+    // Of what is not durable at stable the version before it is read.
     Story {
         case: Case {
-            text: "sys create t S S\nsys ckpt\ns1 begin\ns1 put t a 1\ns1 commit commit=1\nsys ckpt\n",
+            text: "sys create t S S\ns9 begin\ns9 put t a x\ns9 commit commit=a\ns9 begin\ns9 put t a y\ns9 commit commit=14\nsys set stable=a\nsys ckpt\nsys crash\ns1 begin\ns1 get t a\n",
             reads: &[],
             writes: &[],
-            status: 1,
-            told: "22 text at line 6\n",
-            printed: "ok\nok\nok\nok\nok\n",
+            status: 0,
+            told: "",
+            printed: "ok\nok\nok\nok\nok\nok\nok\nok\nok\nok\nok\nok x\n",
         },
-        behind: FORGETS_A,
+        behind: HAS_X,
+    },
+    // So where the leaf was evicted before.
+    Story {
+        case: Case {
+            text: "sys create t S S\ns9 begin\ns9 put t a x\ns9 commit commit=a\ns9 begin\ns9 put t a y\ns9 commit commit=14\nsys evict t a\nsys set stable=a\nsys ckpt\nsys crash\ns1 begin\ns1 get t a\n",
+            reads: &[],
+            writes: &[],
+            status: 0,
+            told: "",
+            printed: "ok\nok\nok\nok\nok\nok\nok\nok\nok\nok\nok\nok\nok x\n",
+        },
+        behind: HAS_X,
+    },
+    // Where there is none before it the key is absent.
+    Story {
+        case: Case {
+            text: "sys create t S S\ns1 begin\ns1 put t a x\ns1 prepare a\ns1 commit commit=a durable=1e\nsys set stable=14\nsys ckpt\nsys crash\ns1 begin\ns1 get t a\n",
+            reads: &[],
+            writes: &[],
+            status: 0,
+            told: "",
+            printed: "ok\nok\nok\nok\nok\nok\nok\nok\nok\n-31803 not found\n",
+        },
+        behind: HAS_NOTHING,
+    },
+    // A checkpoint keeps nothing of a transaction that is prepared.
+    Story {
+        case: Case {
+            text: "sys create t S S\ns1 begin\ns1 put t a x\ns1 prepare a\nsys ckpt\nsys crash\ns1 begin\ns1 get t a\n",
+            reads: &[],
+            writes: &[],
+            status: 0,
+            told: "",
+            printed: "ok\nok\nok\nok\nok\nok\nok\n-31803 not found\n",
+        },
+        behind: HAS_NOTHING,
+    },
+    // A close keeps what was committed with a stamp.
+    Story {
+        case: Case {
+            text: "sys create t S S\ns1 begin\ns1 put t a x\ns1 commit commit=a\nsys close\ns1 begin\ns1 get t a\n",
+            reads: &[],
+            writes: &[],
+            status: 0,
+            told: "",
+            printed: "ok\nok\nok\nok\nok\nok\nok x\n",
+        },
+        behind: HAS_X,
     },
 ];
 

@@ -1,5 +1,6 @@
-// Devices that a store refuses as it opens them, and what `verify` tells of them, which opens none.
-use super::{ROOM, bytes_of, disk_of, runs, with_byte, written};
+// Devices with a history, and those that a store refuses as it opens them, with what `verify` tells of
+// them, which opens none.
+use super::{ROOM, Row, bytes_of, disk_of, runs, with_byte, written};
 use std::alloc::Global;
 use std::process::Abort;
 
@@ -57,13 +58,23 @@ fn with_history(rt: &impl Abort, content: Vec<u8>) -> Vec<u8> {
     content
 }
 
+const OPENED: &[Row<'static>] = &[
+    ("verify", 0, "", ""),
+    ("list", 0, "", "table:t\n"),
+    ("read|t|a", 0, "", "1\n"),
+    ("write|t|a|2", 1, "-31801 duplicate key\n", ""),
+    ("write|-o|t|a|2|b|3", 0, "", ""),
+    ("verify|t", 0, "", ""),
+    ("read|t|a|b", 0, "", "2\n3\n"),
+];
+
 #[test]
-fn a_history_is_verified_and_not_opened(rt: HostRuntime) {
+fn a_device_with_a_history_is_opened(rt: HostRuntime) {
     let alloc = rt.alloc();
     let content = bytes_of(&rt, alloc, &written(&rt, alloc));
     let content = with_history(&rt, content);
-    let told = "75 limit image\n";
-    each_is_refused(&rt, alloc, content, told, (0, ""));
+    let disk = disk_of(&rt, alloc, content, ROOM, &[]);
+    let _ = runs(&rt, alloc, disk, OPENED);
 }
 
 // The second byte of its leaf is 2 in place of 1.
@@ -73,9 +84,8 @@ fn damage_of_a_history_is_told(rt: HostRuntime) {
     let content = bytes_of(&rt, alloc, &written(&rt, alloc));
     let content = with_history(&rt, content);
     let content = with_byte(&rt, content, 20481, 1, 2);
-    let told = "75 limit image\n";
     let damage = "-31802 corrupt at 20480 want 9210 found 9212\n";
-    each_is_refused(&rt, alloc, content, told, (1, damage));
+    each_is_refused(&rt, alloc, content, damage, (1, damage));
 }
 
 // The number of the next table is 2^32 - 766, which leaves none for 1,024 tables. It stands from the

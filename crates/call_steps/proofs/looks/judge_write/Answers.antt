@@ -1,6 +1,6 @@
 use Rattle.std.proofs.Common.{◌≡◌, ◌∙◌, List, Some, None, ap, sym}
 use Rattle.update_chain.specs.declared.update.Update.{Update}
-use Rattle.rows_shown.specs.Shows.{shown_at}
+use Rattle.reconcile.specs.Shows.{shown_at}
 use Rattle.leaf_chains.specs.Slots.{slot_of}
 use Rattle.call_steps.specs.Looks.{write_found}
 use Rattle.call_steps.proofs.Newest.{chain_in_slot, no_chain}

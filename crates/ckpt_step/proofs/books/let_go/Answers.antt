@@ -12,9 +12,12 @@ pub returns-clause-cells : goal.returns-clause-cells
 returns-clause-cells c old captured a are kept own fresh half u =
     let was = c.args.was.now in
     let told = c.args.told.now in
+    let past = c.args.history.now in
     let lives = c.args.lives.now in
     let left = addrs_of (left_by was told) in
+    let more = past ++ addrs_in lives in
     c.let_go_lives.ensures.cells u
-    ∙ (ap (λ (d : Cell). without_all u d (addrs_in lives)) (c.let_go_trees.ensures.cells u)
-    ∙ (sym (without_both u (cell_at c.args.blocks.now.cells u) left (addrs_in lives))
-    ∙ (ap (λ (d : Cell). without_all u d (left ++ addrs_in lives)) (half u) ∙ settled old lives captured own u (left ++ addrs_in lives) (are_left old lives captured was told are kept) a)))
+    ∙ (ap (λ (d : Cell). without_all u d (addrs_in lives)) (c.let_go_unless_last.ensures.cells u ∙ ap (λ (d : Cell). without_all u d past) (c.let_go_trees.ensures.cells u))
+    ∙ (sym (without_both u (without_all u (cell_at c.args.blocks.now.cells u) left) past (addrs_in lives))
+    ∙ (sym (without_both u (cell_at c.args.blocks.now.cells u) left more)
+    ∙ (ap (λ (d : Cell). without_all u d (left ++ more)) (half u) ∙ settled old lives captured own u (left ++ more) (are_left old lives captured was told more are kept) a))))

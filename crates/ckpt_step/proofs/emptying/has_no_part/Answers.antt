@@ -1,4 +1,4 @@
-use Rattle.std.proofs.Common.{◌≡◌, ◌∙◌, [], List, Option, Some, None, ap, refl, sym}
+use Rattle.std.proofs.Common.{◌≡◌, ◌∙◌, [], List, Option, ap, refl, sym}
 use Rattle.kv_model.specs.Machine.{of_some}
 use Rattle.stored.specs.TableTree.{Entry}
 use Rattle.ckpt_step.specs.Rooms.{known_in}

@@ -17,5 +17,6 @@ returns-in-Ok-true-clause-left c = λ yes.
       stands = c.in-Ok-true.ensures.stands c.in-Ok-true.field-0-test;
       gone = c.forget.ensures.gone;
       others = c.forget.ensures.others;
+      kept = c.forget-in-Ok-true.ensures;
       same = refl;
     }

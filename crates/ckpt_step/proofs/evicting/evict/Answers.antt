@@ -1,13 +1,13 @@
-use Rattle.std.proofs.Common.{◌∙◌, List, [], ap, arith, inl, inr, length, refl, sym, subst}
+use Rattle.std.proofs.Common.{◌∙◌, List, ap, arith, inl, inr, refl, sym, subst}
 use Rattle.evict_step.specs.declared.cut.CutOut.{CutOut}
 use Rattle.evict_step.specs.Cuts.{AreCut, IsCutOut}
 use Rattle.reconcile.specs.declared.image.Image.{Image}
-use Rattle.reconcile.specs.declared.image.Moved.{Moved}
 use Rattle.evict_step.specs.Kept.{KeepsThese, Lists}
 use Rattle.ckpt_step.proofs.LedEmpty.{left_empty, stayed_same}
 use Rattle.ckpt_step.proofs.LedEnds.{down_led, stayed_led}
 use Rattle.ckpt_step.proofs.OutCuts.{is_none, not_none}
-use Rattle.ckpt_step.proofs.KeptLists.{still_so}
+use Rattle.ckpt_step.proofs.KeptLists.{keeps_none}
+use Rattle.ckpt_step.specs.declared.ground.Ground.{Ground}
 use Rattle.ckpt_step.proofs.evicting.evict.Goals as goal
 
 pub returns-in-Some-clause-evicts : goal.returns-in-Some-clause-evicts
@@ -54,7 +54,9 @@ pub returns-in-Ok-true-clause-engine : goal.returns-in-Ok-true-clause-engine
 returns-in-Ok-true-clause-engine g c = let x = c.in-Ok-true.ensures.left c.in-Ok-true.field-0-test in (x.link, x.out)
 
 pub returns-in-Ok-true-clause-keeps : goal.returns-in-Ok-true-clause-keeps
-returns-in-Ok-true-clause-keeps g c w stands keeps = subst (λ (l : Lists). KeepsThese w l) (sym c.leave_empty.ensures.history) keeps
+returns-in-Ok-true-clause-keeps g c w stands keeps =
+    let x = c.in-Ok-true.ensures.left c.in-Ok-true.field-0-test in
+    keeps_none c.args.engine.now w c.args.leaf c.args.ground.now.kept c.leave_empty.new.ground.kept stands x.out.may x.kept keeps
 
 pub returns-in-Ok-false-clause-evicts : goal.returns-in-Ok-false-clause-evicts
 returns-in-Ok-false-clause-evicts g c h w stands idle old on follows device =
@@ -74,7 +76,7 @@ pub returns-in-Ok-false-clause-engine : goal.returns-in-Ok-false-clause-engine
 returns-in-Ok-false-clause-engine g c = (c.in-Ok-false.ensures.not c.in-Ok-false.field-0-test).0
 
 pub returns-in-Ok-false-clause-keeps : goal.returns-in-Ok-false-clause-keeps
-returns-in-Ok-false-clause-keeps g c w stands keeps = subst (λ (l : Lists). KeepsThese w l) (sym c.leave_empty.ensures.history) keeps
+returns-in-Ok-false-clause-keeps g c w stands keeps = subst (λ (l : Lists). KeepsThese w l) (sym (ap (λ (s : Ground). s.kept) (c.in-Ok-false.ensures.not c.in-Ok-false.field-0-test).1)) keeps
 
 pub returns-in-Err-clause-evicts : goal.returns-in-Err-clause-evicts
 returns-in-Err-clause-evicts g c h w stands idle old on follows device =
@@ -90,7 +92,7 @@ pub returns-in-Err-clause-engine : goal.returns-in-Err-clause-engine
 returns-in-Err-clause-engine g c = inl c.in-Err.ensures.kept.0
 
 pub returns-in-Err-clause-keeps : goal.returns-in-Err-clause-keeps
-returns-in-Err-clause-keeps g c w stands keeps = subst (λ (l : Lists). KeepsThese w l) (sym c.leave_empty.ensures.history) keeps
+returns-in-Err-clause-keeps g c w stands keeps = subst (λ (l : Lists). KeepsThese w l) (sym (ap (λ (s : Ground). s.kept) c.in-Err.ensures.kept.1)) keeps
 
 -- ---- it has some
 

@@ -42,7 +42,7 @@ returns-in-Ok-move_out-clause-puts g c h moved cut w stands idle old on follows 
     let entry : Entry = record { key = c.index-entry.result.now.key; link = c.entry.inside.link } in
     let sole = sole_entry c.in-Ok-write_leaves.entries.items c.index-entry.result.now c.entry.inside.link (keys_length c.in-Ok.low c.in-Ok-write_leaves.entries.items c.args.images.now c.in-Ok-write_leaves.ensures.keys ∙ c.requires.one) c.index-entry.ensures (ap (λ (x : Entry). x.link) c.entry.view_is) in
     moved_out_led D before start looked (λ x is. g.met.D.Disk.only_now _ x is) old w c.args.ground.now c.args.engine.now c.args.leaf on follows device c.args.images.now moved cut c.requires.one c.in-Ok.low c.in-Ok.ensures stands idle c.write_leaves.new.disk c.write_leaves.new.blocks
-    c.in-Ok-write_leaves.entries.items entry sole c.in-Ok-write_leaves.ensures.fits wrote (c.in-Ok-write_leaves.ensures.ready (looked.same ∙ h) tt) c.in-Ok-write_leaves.ensures.held _ refl refl refl (record { slot = refl; number = refl; trees = refl; floor = refl; kept = refl })
+    c.in-Ok-write_leaves.entries.items entry sole c.in-Ok-write_leaves.ensures.fits wrote (c.in-Ok-write_leaves.ensures.ready (looked.same ∙ h) tt) c.in-Ok-write_leaves.ensures.held _ refl refl refl (record { slot = refl; number = refl; trees = refl; floor = refl; history = refl; kept = refl })
     c.move_out.new.engine c.move_out.new.ground c.in-Ok-move_out.ensures.left
 
 pub returns-in-Ok-write_leaves-clause-puts : goal.returns-in-Ok-write_leaves-clause-puts
@@ -57,7 +57,7 @@ returns-in-Ok-write_leaves-clause-puts g c h moved cut w stands idle old on foll
     let entry : Entry = record { key = c.index-entry.result.now.key; link = c.entry.inside.link } in
     let sole = sole_entry c.in-Ok-write_leaves.entries.items c.index-entry.result.now c.entry.inside.link (keys_length c.in-Ok.low c.in-Ok-write_leaves.entries.items c.args.images.now c.in-Ok-write_leaves.ensures.keys ∙ c.requires.one) c.index-entry.ensures (ap (λ (x : Entry). x.link) c.entry.view_is) in
     moved_back_led D before start looked (λ x is. g.met.D.Disk.only_now _ x is) old w c.args.ground.now c.args.engine.now c.args.leaf on follows device c.args.images.now moved cut c.requires.one c.in-Ok.low c.in-Ok.ensures stands idle c.write_leaves.new.disk c.write_leaves.new.blocks
-    c.in-Ok-write_leaves.entries.items entry sole c.in-Ok-write_leaves.ensures.fits wrote (c.in-Ok-write_leaves.ensures.ready (looked.same ∙ h) tt) c.in-Ok-write_leaves.ensures.held _ refl refl refl (record { slot = refl; number = refl; trees = refl; floor = refl; kept = refl })
+    c.in-Ok-write_leaves.entries.items entry sole c.in-Ok-write_leaves.ensures.fits wrote (c.in-Ok-write_leaves.ensures.ready (looked.same ∙ h) tt) c.in-Ok-write_leaves.ensures.held _ refl refl refl (record { slot = refl; number = refl; trees = refl; floor = refl; history = refl; kept = refl })
     c.move_out.new.engine c.move_out.new.ground c.in-Err-move_out.ensures.kept
 
 pub returns-clause-puts : goal.returns-clause-puts
@@ -70,4 +70,4 @@ returns-clause-puts g c h moved cut w stands idle old on follows device =
     let may = may_start D before start looked (λ x is. g.met.D.Disk.only_now _ x is) old w c.args.ground.now c.args.engine.now c.args.leaf on follows device in
     let back = c.in-Err-write_leaves.ensures.writes own.leaves own.spelled (looked.same ∙ h) old may in
     given_back_led D before start looked (λ x is. g.met.D.Disk.only_now _ x is) old w c.args.ground.now c.args.engine.now c.args.leaf on follows device c.args.images.now moved cut c.requires.one c.in-Ok.low c.in-Ok.ensures stands idle c.write_leaves.new.disk c.write_leaves.new.blocks
-    c.in-Err-write_leaves.error _ back (λ safe. c.in-Err-write_leaves.ensures.ready (looked.same ∙ h) safe) c.in-Err-write_leaves.ensures.held refl refl refl (record { slot = refl; number = refl; trees = refl; floor = refl; kept = refl })
+    c.in-Err-write_leaves.error _ back (λ safe. c.in-Err-write_leaves.ensures.ready (looked.same ∙ h) safe) c.in-Err-write_leaves.ensures.held refl refl refl (record { slot = refl; number = refl; trees = refl; floor = refl; history = refl; kept = refl })

@@ -1,10 +1,8 @@
-use Rattle.std.proofs.Common.{◌≡◌, ◌≤◌, ◌+◌, ◌∙◌, ap, arith, inl, inr, length, refl, sym, subst, ℕ}
-use Rattle.std.specs.Prelude.{vec_capacity}
+use Rattle.std.proofs.Common.{◌≡◌, ◌∙◌, ap, arith, inl, inr, length, refl, sym, subst, ℕ}
 use Rattle.tree_dir.specs.declared.leaf.Leaf.{Leaf}
 use Rattle.tree_dir.specs.Leaves.{Directory}
 use Rattle.evict_step.specs.Kept.{KeepsMore, KeepsThese, Lists, lying_in}
 use Rattle.ckpt_step.proofs.KeptGround.{parts_kept}
-use Rattle.ckpt_step.proofs.KeptLists.{still_so}
 use Rattle.ckpt_step.proofs.LedEnds.{stayed_led}
 use Rattle.ckpt_step.proofs.Members.{some_same}
 use Rattle.ckpt_step.proofs.OutConcluding.{parted_rows, parted_work}

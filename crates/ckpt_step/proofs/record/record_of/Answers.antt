@@ -1,4 +1,4 @@
-use Rattle.std.proofs.Common.{◌∙◌, ℕ, List, length, reverse, ap, refl, rules, sym, subst, arith}
+use Rattle.std.proofs.Common.{◌∙◌, ◌≤◌, ℕ, List, length, reverse, ap, refl, rules, sym, subst, arith}
 use Rattle.std.specs.List.{AllByRecursion}
 use Rattle.std.proofs.lemmas.List.{reverse-reverse}
 use Rattle.kv_model.specs.Content.{Snapshot}
@@ -8,14 +8,14 @@ use Rattle.snapshot.specs.Sight.{Sight}
 use Rattle.txn_table.proofs.Capturing.{are-unended, checkpoints-see}
 use Rattle.txn_table.proofs.Standing.{calls-stand}
 use Rattle.device_leaf.specs.NoHistory.{no_root}
-use Rattle.stored.specs.Records.{Root, RootFits, TableRoot}
+use Rattle.stored.specs.Records.{Root, TableRoot}
 use Rattle.stored.specs.Stored.{tables_of}
 use Rattle.catalog.specs.Known.{by_name}
 use Rattle.engine.specs.declared.checkpoint.EngineMarks.{EngineMarks}
 use Rattle.engine.proofs.Checkpoints.{sees-now}
 use Rattle.ckpt_step.specs.Records.{IsTyped, of_number, roots_by_name}
 use Rattle.ckpt_step.specs.Trees.{placed_by, roots_of}
-use Rattle.ckpt_step.proofs.RecordsFit.{TablesFit, nowhere_fits, rooted_tables, tables_fit}
+use Rattle.ckpt_step.proofs.RecordsFit.{TablesFit, rooted_tables, tables_fit}
 use Rattle.ckpt_step.proofs.record.record_of.Goals as goal
 
 abbrev sight_with : ℕ → Snapshot → Sight
@@ -40,7 +40,7 @@ returns-clause-admitted c =
       stamps = c.marks-marks.ensures.fit.stamps;
       snapshot = c.in_ok-kept_of.ensures.fits;
       next = omega (arith, known.next, c.next_number.ensures);
-      history = subst (λ (r : Root). RootFits r) (sym c.no_root.ensures) nowhere_fits;
+      history = record { level = subst (λ (r : Root). r.level ≤ 60) (sym c.typed.ensures.is) c.requires.root; link = c.typed.ensures.link };
       count = own.count;
       tables = own.each;
       climb = own.climb;
@@ -70,6 +70,5 @@ returns-clause-names c = λ w st none.
       max = ap (λ (s : Snapshot). s.max) kept ∙ (ap (λ (s : Sight). s.max) sight ∙ st.txns.next);
       unended = subst (λ (l : List ℕ). AreUnended m l) (sym ids) (are-unended txns m st.txns);
       sees = subst (λ (s : Sight). SeesCommitted m (length m.history) s) (sym seen) (sees-now calls-stand checkpoints-see txns m st.valid st.txns none);
-      bare = c.no_root.ensures;
       tables_are = ap tables_of roots ∙ (rooted_tables trees (by_name k.tables) ∙ ap by_name (sym (reverse-reverse k.tables) ∙ ap (λ (l : List Table). reverse l) (c.tables-tables.ensures.made w st)));
     }

@@ -34,7 +34,7 @@ returns-in-Ok-move_in-clause-puts g c h rows place w stands newest old on follow
     let may = may_start D before start looked (λ x is. g.met.D.Disk.only_now _ x is) old w c.args.ground.now c.args.engine.now c.args.leaf on follows device in
     let wrote = c.in-Ok.ensures.writes own.leaves spelled (looked.same ∙ h) old may in
     moved_out D before start looked (λ x is. g.met.D.Disk.only_now _ x is) old w c.args.ground.now c.args.engine.now c.args.leaf on follows device c.args.cut.now rows place stands newest c.write_leaves.new.disk c.write_leaves.new.blocks
-    c.in-Ok.entries.items wrote (c.in-Ok.ensures.ready (looked.same ∙ h) tt) c.in-Ok.ensures.held _ refl refl refl (record { slot = refl; number = refl; trees = refl; floor = refl; kept = refl })
+    c.in-Ok.entries.items wrote (c.in-Ok.ensures.ready (looked.same ∙ h) tt) c.in-Ok.ensures.held _ refl refl refl (record { slot = refl; number = refl; trees = refl; floor = refl; history = refl; kept = refl })
     c.leaves_give_way.ensures keys c.in-Ok.ensures.fits c.move_in.new.engine c.move_in.new.ground c.args.when c.in-Ok-move_in.ensures.moved
 
 pub returns-in-Err-move_in-clause-puts : goal.returns-in-Err-move_in-clause-puts
@@ -48,7 +48,7 @@ returns-in-Err-move_in-clause-puts g c h rows place w stands newest old on follo
     let may = may_start D before start looked (λ x is. g.met.D.Disk.only_now _ x is) old w c.args.ground.now c.args.engine.now c.args.leaf on follows device in
     let wrote = c.in-Ok.ensures.writes own.leaves spelled (looked.same ∙ h) old may in
     moved_back D before start looked (λ x is. g.met.D.Disk.only_now _ x is) old w c.args.ground.now c.args.engine.now c.args.leaf on follows device c.args.cut.now rows place stands newest c.write_leaves.new.disk c.write_leaves.new.blocks
-    c.in-Ok.entries.items wrote (c.in-Ok.ensures.ready (looked.same ∙ h) tt) c.in-Ok.ensures.held _ refl refl refl (record { slot = refl; number = refl; trees = refl; floor = refl; kept = refl })
+    c.in-Ok.entries.items wrote (c.in-Ok.ensures.ready (looked.same ∙ h) tt) c.in-Ok.ensures.held _ refl refl refl (record { slot = refl; number = refl; trees = refl; floor = refl; history = refl; kept = refl })
     c.move_in.new.engine c.move_in.new.ground c.in-Err-move_in.ensures.kept
 
 pub returns-in-Err-write_leaves-clause-puts : goal.returns-in-Err-write_leaves-clause-puts
@@ -62,4 +62,4 @@ returns-in-Err-write_leaves-clause-puts g c h rows place w stands newest old on 
     let may = may_start D before start looked (λ x is. g.met.D.Disk.only_now _ x is) old w c.args.ground.now c.args.engine.now c.args.leaf on follows device in
     let back = c.in-Err-write_leaves.ensures.writes own.leaves spelled (looked.same ∙ h) old may in
     given_back D before start looked (λ x is. g.met.D.Disk.only_now _ x is) old w c.args.ground.now c.args.engine.now c.args.leaf on follows device c.args.cut.now rows place stands newest c.write_leaves.new.disk c.write_leaves.new.blocks
-    c.in-Err-write_leaves.error _ back (λ safe. c.in-Err-write_leaves.ensures.ready (looked.same ∙ h) safe) c.in-Err-write_leaves.ensures.held refl refl refl (record { slot = refl; number = refl; trees = refl; floor = refl; kept = refl })
+    c.in-Err-write_leaves.error _ back (λ safe. c.in-Err-write_leaves.ensures.ready (looked.same ∙ h) safe) c.in-Err-write_leaves.ensures.held refl refl refl (record { slot = refl; number = refl; trees = refl; floor = refl; history = refl; kept = refl })

@@ -3,5 +3,5 @@ use Rattle.device_read.proofs.laws.readers_have_pages.Goals as goal
 
 pub returns : goal.returns
 returns c bytes content h place t reader reads at =
-    let are = pages_read bytes content h place t reader reads at in
+    let are = pages_read bytes content h place t (c.what_is_read_is_regular.ensures bytes content reads) reader reads at in
     (are.pages, whole_pages bytes content h place t.number are)

@@ -6,8 +6,7 @@ use Rattle.call_steps.specs.declared.hub.Hub.{Hub}
 use Rattle.engine_world.specs.Stands.{Engine, Stands}
 use Rattle.engine_world.specs.Systems.{first_world}
 use Rattle.engine.specs.Openings.{IsOpened}
-use Rattle.engine_start.specs.Contents.{leaves_content_with}
-use Rattle.engine_start.specs.Entries.{IsShelf, IsUnread, whole_tables}
+use Rattle.engine_start.specs.Entries.{IsUnread, StartsOn}
 use Rattle.engine_start.proofs.Placing.{count_known, leaves_owned}
 use Rattle.engine_start.proofs.Starting.{is_unread, on_its_own}
 use Rattle.engine_start.proofs.opening.start.Goals as goal
@@ -41,6 +40,6 @@ pub returns-clause-next : goal.returns-clause-next
 returns-clause-next c = told c (λ (l : Engine). l.hub.tables.next ≡ max c.args.next_table 1) (λ l is. ap (λ (h : Hub). h.tables.next) is.hub ∙ c.in_ok-known.ensures.next)
 
 pub returns-clause-stands : goal.returns-clause-stands
-returns-clause-stands c = λ ids led shelf parted. told c
-    (λ (l : Engine). IsShelf c.args.marks ids led shelf l.hub.dir.leaves → Stands l (first_world (leaves_content_with c.args.marks ids (whole_tables led c.args.tables.items)) shelf l))
-    (λ l is shelved. c.unread_stand.ensures c.args.marks ids led shelf c.args.tables.items c.args.next_table l c.requires.recorded c.requires.stamps parted (unread c l is) shelved)
+returns-clause-stands c = λ led content shelf records parted is regular. told c
+    (λ (l : Engine). StartsOn content shelf records l → Stands l (first_world content shelf records l))
+    (λ l opened starts. c.unread_stand.ensures c.args.marks led content shelf records c.args.tables.items l c.requires.recorded.once parted (unread c l opened) is regular starts)

@@ -1,8 +1,9 @@
-use Rattle.std.proofs.Common.{◌∙◌, List, ℕ, inr, refl, subst, sym, arith}
+use Rattle.std.proofs.Common.{◌∙◌, List, ℕ, ap, inr, refl, subst, sym, arith}
 use Rattle.disk_model.proofs.Crash.{looked_then}
 use Rattle.engine_store.specs.Marked.{IsLeafKept}
-use Rattle.engine_store.proofs.HubsGo.{goes_same, goes_then, kept_then, owned_then, refuses_back}
-use Rattle.engine_store.proofs.LeavesGo.{leaves_same, leaves_then}
+use Rattle.evict_step.specs.Kept.{list_of}
+use Rattle.engine_store.proofs.HubsGo.{goes_same, goes_then, kept_then, owned_then, refuses_back, relisted}
+use Rattle.engine_store.proofs.LeavesGo.{leaf_was, leaves_same, leaves_then}
 use Rattle.engine_store.proofs.MarkedIds.{framed_more, unmarked_then}
 use Rattle.engine_store.proofs.marked.bring_marked.Goals as goal
 
@@ -18,6 +19,7 @@ loop-leaf-init g c = record {
   home = refl;
   framed = λ k lt. absurd (omega (arith, lt));
   stands = λ honest w st kept. st;
+  same = λ x there free. refl;
 }
 
 pub bring_as-requires : goal.bring_as-requires
@@ -52,7 +54,13 @@ loop-leaf-preserved g c =
       home = c.bring_as.ensures.home ∙ now.home;
       framed = framed_more mid.dir.leaves last.dir.leaves c.deref-leaf-items.result.now c.loop-leaf.leaf-index _ now.framed c.bring_as.ensures.leaves c.in-Ok.ensures.framed refl;
       stands = λ honest w st kept. c.in-Ok.ensures.stands (now.looked.same ∙ honest) w (now.stands honest w st kept)
-          (λ l there. subst (λ (bytes : List ℕ). IsLeafKept bytes mid.dir c.args.marks c.args.ids.now w.shelf l) (sym now.looked.content) (kept_then (D.seen c.args.disk.now) first.dir mid.dir c.args.marks c.args.ids.now w.shelf now.leaves kept l there));
+          (λ l there free. relisted (D.seen c.loop-leaf.disk) mid.dir c.args.marks c.args.ids.now c.args.kept.now c.loop-leaf.kept w.shelf l (now.same l there free)
+          (subst (λ (bytes : List ℕ). IsLeafKept bytes mid.dir c.args.marks c.args.ids.now c.args.kept.now w.shelf l) (sym now.looked.content) (kept_then (D.seen c.args.disk.now) first.dir mid.dir c.args.marks c.args.ids.now c.args.kept.now w.shelf now.leaves kept l there)));
+      same = λ l there free.
+          let was = leaf_was mid.dir.leaves last.dir.leaves l c.bring_as.ensures.leaves there in
+          let id = was.2.id in
+          c.in-Ok.ensures.others l.id (λ met. c.in-Ok.ensures.framed l there met free)
+          ∙ (ap (λ (n : ℕ). list_of c.loop-leaf.kept n) id ∙ (now.same was.0 was.1 (was.2.stays free) ∙ ap (λ (n : ℕ). list_of c.args.kept.now n) (sym id)));
     }
 
 pub returns-clause-leaves : goal.returns-clause-leaves

@@ -1,4 +1,4 @@
-use Rattle.rows_shown.specs.Shows.{shown_at}
+use Rattle.reconcile.specs.Shows.{shown_at}
 use Rattle.leaf_chains.specs.Slots.{chain_at}
 use Rattle.std.proofs.Common.{◌∙◌}
 use Rattle.frame_capture.proofs.Keeping.{found_over}

@@ -3,7 +3,7 @@ use Rattle.std.proofs.lemmas.List.{map-id}
 use Rattle.std.proofs.lemmas.Iterator.Adapters.{YieldsList-from_vec}
 use Rattle.std.proofs.lemmas.Iterator.Consumers.{YieldsList-end, YieldsList-turn}
 use Rattle.row_page.specs.Rows.{RowFits, key_most}
-use Rattle.leaf_capture.specs.Cells.{cell_version}
+use Rattle.reconcile.specs.Cells.{cell_version}
 use Rattle.reconcile.specs.declared.image.Moved.{Moved}
 use Rattle.hist_gather.specs.Added.{HasMore, OfMoved}
 use Rattle.hist_gather.proofs.Members.{all_at}

@@ -1,7 +1,7 @@
 use Rattle.std.proofs.Common.{◌≡◌, List, Option, None, Some, Bor, sym, subst}
 use Rattle.row_page.specs.Rows.{Row, Ascends}
 use Rattle.row_page.specs.Views.{row_seen}
-use Rattle.rows_shown.specs.Shows.{shown_at}
+use Rattle.reconcile.specs.Shows.{shown_at}
 use Rattle.reconcile.specs.Held.{page_rows}
 use Rattle.leaf_frame.specs.Looks.{version_seen}
 use Rattle.leaf_frame.proofs.Pages.{shows_at, shows_none}

@@ -2,8 +2,8 @@ use Rattle.std.proofs.Common.{◌∙◌, ℕ, List, ap, sym}
 use Rattle.leaf_chains.specs.Slots.{chain_at}
 use Rattle.leaf_frame.proofs.Leasts.{some_chain}
 use Rattle.leaf_frame.proofs.Slots.{own_chain}
-use Rattle.leaf_capture.specs.Gathered.{slots_at}
-use Rattle.leaf_capture.proofs.Gathering.{way_chain}
+use Rattle.reconcile.specs.Gathered.{slots_at}
+use Rattle.reconcile.proofs.Gathering.{way_chain}
 use Rattle.leaf_frame.proofs.updates.has_updates.Goals as goal
 
 pub returns-then-not-is_empty : goal.returns-then-not-is_empty

@@ -1,6 +1,6 @@
 use Rattle.std.proofs.Common.{◌≡◌, ℕ, List, [], length}
 use Rattle.leaf_chains.specs.Slots.{chain_at}
-use Rattle.leaf_capture.specs.Gathered.{slots_at}
+use Rattle.reconcile.specs.Gathered.{slots_at}
 use Rattle.leaf_frame.proofs.updates.has_updates.Given as goal
 
 abbrev pub invariant-loop-slot : goal.invariant-loop-slot

@@ -1,5 +1,5 @@
 use Rattle.std.proofs.Common.{◌∙◌, ℕ, List, ap, sym}
-use Rattle.leaf_capture.specs.Gathered.{slots_at}
+use Rattle.reconcile.specs.Gathered.{slots_at}
 use Rattle.leaf_frame.specs.Updates.{least_of, lesser}
 use Rattle.leaf_frame.proofs.Leasts.{is_least, lesser_none}
 use Rattle.leaf_frame.proofs.updates.least_unseen.Goals as goal

@@ -1,8 +1,8 @@
 use Rattle.std.proofs.Common.{◌∙◌, ℕ, List, drop, None, ap, sym, subst}
 use Rattle.leaf_chains.specs.declared.slot.KeyChain.{KeyChain}
-use Rattle.leaf_capture.specs.Gathered.{slots_at}
-use Rattle.leaf_capture.proofs.Measuring.{slot_fits}
-use Rattle.leaf_capture.proofs.Gathering.{climbs, way_chain}
+use Rattle.reconcile.specs.Gathered.{slots_at}
+use Rattle.reconcile.proofs.Measuring.{slot_fits}
+use Rattle.reconcile.proofs.Gathering.{climbs, way_chain}
 use Rattle.reconcile.specs.declared.image.Moved.{Moved}
 use Rattle.reconcile.specs.declared.live.Rule.{Rule}
 use Rattle.reconcile.specs.Held.{page_rows}

@@ -1,5 +1,5 @@
 use Rattle.std.proofs.Common.{drop, length}
-use Rattle.leaf_capture.specs.Gathered.{slots_at}
+use Rattle.reconcile.specs.Gathered.{slots_at}
 use Rattle.reconcile.specs.Held.{page_rows}
 use Rattle.reconcile.specs.Making.{MadeTo}
 use Rattle.reconcile.specs.Merged.{merged}

@@ -1,4 +1,4 @@
-use Rattle.std.proofs.Common.{◌∙◌, refl}
+use Rattle.std.proofs.Common.{◌∙◌}
 use Rattle.std.specs.Prelude.{Ok, Err}
 use Rattle.script_run.proofs.Devices.{busy_by, checkpoint_busy, checkpoint_told}
 use Rattle.script_run.proofs.Telling.{done_faults, refused_faults, same_told}
@@ -7,12 +7,12 @@ use Rattle.script_run.proofs.control.checkpoint.Goals as goal
 pub returns-in-Ok-clause-replies : goal.returns-in-Ok-clause-replies
 returns-in-Ok-clause-replies g c = λ honest first s at same.
     checkpoint_told g.D.Disk first s c.args.store.now c.args.disk.now at (busy_by s c.args.evicting.now c.is_busy.result same (c.is_busy.ensures _ at.held.stands) ∙ c.if-is_busy.false) c.checkpoint.new.self c.checkpoint.new.disk c.checkpoint.ensures.frames (Ok tt) c.done.result
-    (c.in-Ok.ensures.takes honest first s.world s.first s.made at.held (at.calm refl).plain) c.done.ensures.reply c.done.ensures.formats
+    (c.in-Ok.ensures.takes honest first s.world s.first s.made at.held) c.done.ensures.reply c.done.ensures.formats
 
 pub returns-in-Err-clause-replies : goal.returns-in-Err-clause-replies
 returns-in-Err-clause-replies g c = λ honest first s at same.
     checkpoint_told g.D.Disk first s c.args.store.now c.args.disk.now at (busy_by s c.args.evicting.now c.is_busy.result same (c.is_busy.ensures _ at.held.stands) ∙ c.if-is_busy.false) c.checkpoint.new.self c.checkpoint.new.disk c.checkpoint.ensures.frames (Err c.in-Err.refusal) c.refused-in-Err.result
-    (c.in-Err.ensures.takes honest first s.world s.first s.made at.held (at.calm refl).plain) c.refused-in-Err.ensures.reply c.refused-in-Err.ensures.formats
+    (c.in-Err.ensures.takes honest first s.world s.first s.made at.held) c.refused-in-Err.ensures.reply c.refused-in-Err.ensures.formats
 
 pub returns-then-is_busy-clause-replies : goal.returns-then-is_busy-clause-replies
 returns-then-is_busy-clause-replies g c = λ honest first s at same.

@@ -11,8 +11,8 @@ use Rattle.script_run.proofs.control.close.Goals as goal
 pub returns-in-Ok-clause-replies : goal.returns-in-Ok-clause-replies
 returns-in-Ok-clause-replies g c = λ honest first s at same.
     close_done g.D.Disk first s c.args.store.now c.args.disk.now at (busy_by s c.args.kept.now.evicting c.is_busy.result (ap (λ (k : Kept). k.evicting) same) (c.is_busy.ensures _ at.held.stands) ∙ c.if-is_busy.false) c.close.new.self c.close.new.disk c.close.ensures.frames
-    (c.in-Ok.ensures.shuts honest first s.world s.first s.made at.held (at.calm refl).plain) c.reopen_as_it_was.new.store c.reopen_as_it_was.new.disk c.reopen_as_it_was.new.kept c.reopen_as_it_was.result
-    (λ stamped t there. c.reopen_as_it_was.ensures.replies (c.close.ensures.disk.same ∙ honest) first stamped t there)
+    (c.in-Ok.ensures.shuts honest first s.world s.first s.made at.held) c.reopen_as_it_was.new.store c.reopen_as_it_was.new.disk c.reopen_as_it_was.new.kept c.reopen_as_it_was.result
+    (λ t there. c.reopen_as_it_was.ensures.replies (c.close.ensures.disk.same ∙ honest) first t there)
 
 pub returns-in-Ok-clause-damage : goal.returns-in-Ok-clause-damage
 returns-in-Ok-clause-damage g c =
@@ -23,7 +23,7 @@ returns-in-Ok-clause-damage g c =
 pub returns-in-Err-clause-replies : goal.returns-in-Err-clause-replies
 returns-in-Err-clause-replies g c = λ honest first s at same.
     close_refused g.D.Disk first s c.args.store.now c.args.disk.now at (busy_by s c.args.kept.now.evicting c.is_busy.result (ap (λ (k : Kept). k.evicting) same) (c.is_busy.ensures _ at.held.stands) ∙ c.if-is_busy.false) c.close.new.self c.close.new.disk c.close.ensures.frames c.in-Err.refusal c.args.kept.now c.refused-in-Err.result
-    (c.in-Err.ensures.shuts honest first s.world s.first s.made at.held (at.calm refl).plain) same c.refused-in-Err.ensures.reply c.refused-in-Err.ensures.formats
+    (c.in-Err.ensures.shuts honest first s.world s.first s.made at.held) same c.refused-in-Err.ensures.reply c.refused-in-Err.ensures.formats
 
 pub returns-then-is_busy-clause-replies : goal.returns-then-is_busy-clause-replies
 returns-then-is_busy-clause-replies g c = λ honest first s at same.

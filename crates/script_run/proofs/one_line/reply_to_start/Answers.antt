@@ -1,9 +1,4 @@
-use Rattle.std.proofs.Common.{subst}
-use Rattle.std.specs.Prelude.{Bool}
-use Rattle.script_text.specs.declared.line.Line.TheVariants.{Start}
-use Rattle.script_run.specs.Runs.{IsTold}
 use Rattle.script_run.specs.Scripts.{IsUnbuilt}
-use Rattle.script_run.proofs.EvictingLines.{stamps_none, the_eviction}
 use Rattle.script_run.proofs.Holding.{not_later}
 use Rattle.script_run.proofs.one_line.reply_to_start.Goals as goal
 
@@ -11,7 +6,4 @@ pub reply_to_actor-requires-clause-now : goal.reply_to_actor-requires-clause-now
 reply_to_actor-requires-clause-now g c = not_later c.is_unbuilt.result (IsUnbuilt c.args.call) c.if-is_unbuilt.false c.is_unbuilt.ensures.1
 
 pub returns-then-is_unbuilt-clause-replies : goal.returns-then-is_unbuilt-clause-replies
-returns-then-is_unbuilt-clause-replies g c = λ honest first stamped s at same none.
-    let later = c.is_unbuilt.ensures.0 c.if-is_unbuilt.true in
-    subst (λ (b : Bool). IsTold g.D.Disk first b (Start c.args.call) s c.start_evicting.new.store c.start_evicting.new.disk c.start_evicting.new.kept c.start_evicting.result) (stamps_none c.args.call stamped (the_eviction c.args.call later c.requires.now))
-    (c.start_evicting.ensures.replies honest first stamped s at same none)
+returns-then-is_unbuilt-clause-replies g c = λ honest first s at same none. c.start_evicting.ensures.replies honest first s at same none

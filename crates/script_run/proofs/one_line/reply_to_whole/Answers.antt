@@ -1,10 +1,8 @@
 use Rattle.std.proofs.Common.{subst}
-use Rattle.std.specs.Prelude.{Bool}
 use Rattle.script_text.specs.declared.line.Line.TheVariants.{Whole}
 use Rattle.script_run.specs.declared.kept.Kept.{Kept}
 use Rattle.script_run.specs.Runs.{IsTold}
 use Rattle.script_run.specs.Scripts.{IsUnbuilt}
-use Rattle.script_run.proofs.EvictingLines.{stamps_none, the_eviction}
 use Rattle.script_run.proofs.Holding.{not_later}
 use Rattle.script_run.proofs.one_line.reply_to_whole.Goals as goal
 
@@ -12,7 +10,5 @@ pub reply_to_actor-requires-clause-now : goal.reply_to_actor-requires-clause-now
 reply_to_actor-requires-clause-now g c = not_later c.is_unbuilt.result (IsUnbuilt c.args.call) c.if-is_unbuilt.false c.is_unbuilt.ensures.1
 
 pub returns-then-is_unbuilt-clause-replies : goal.returns-then-is_unbuilt-clause-replies
-returns-then-is_unbuilt-clause-replies g c = λ honest first stamped s at same none.
-    let later = c.is_unbuilt.ensures.0 c.if-is_unbuilt.true in
-    subst (λ (b : Bool). IsTold g.D.Disk first b (Whole c.args.call) s c.evict.new.store c.evict.new.disk c.args.kept.now c.evict.result) (stamps_none c.args.call stamped (the_eviction c.args.call later c.requires.now))
-    (subst (λ (l : Kept). IsTold g.D.Disk first stamped (Whole c.args.call) s c.evict.new.store c.evict.new.disk l c.evict.result) same (c.evict.ensures.replies honest first stamped s at same none))
+returns-then-is_unbuilt-clause-replies g c = λ honest first s at same none.
+    subst (λ (l : Kept). IsTold g.D.Disk first (Whole c.args.call) s c.evict.new.store c.evict.new.disk l c.evict.result) same (c.evict.ensures.replies honest first s at same none)

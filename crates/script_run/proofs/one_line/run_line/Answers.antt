@@ -15,21 +15,21 @@ reply_to-requires-clause-actor g c =
     line-known c.in-Ok-Some.line (words_of c.args.text.now) is.spelled
 
 pub returns-in-Err-reply_to-clause-made : goal.returns-in-Err-reply_to-clause-made
-returns-in-Err-reply_to-clause-made g c = λ honest first s at same. let now = not_later c.is_later.result (IsLater c.args.stamped c.in-Ok-Some.line) c.if-is_later.false c.is_later.ensures.1 in (
+returns-in-Err-reply_to-clause-made g c = λ honest first s at same. let now = not_later c.is_later.result (IsLater c.in-Ok-Some.line) c.if-is_later.false c.is_later.ensures.1 in (
   c.in-Ok-Some.line,
   (c.in-Ok-Some.ensures c.in-Ok-Some.line).0 c.in-Ok-Some.field-0-is,
   now,
-  c.in-Err-reply_to.ensures.replies honest first c.args.stamped s now at same,
+  c.in-Err-reply_to.ensures.replies honest first s at same,
 )
 
 pub returns-in-Err-reply_to-clause-damage : goal.returns-in-Err-reply_to-clause-damage
 returns-in-Err-reply_to-clause-damage g c = λ honest at want found is. c.in-Err-reply_to.ensures.damage at want found is honest
 
 pub returns-in-Ok-clause-made : goal.returns-in-Ok-clause-made
-returns-in-Ok-clause-made g c = λ honest first s at same. let now = not_later c.is_later.result (IsLater c.args.stamped c.in-Ok-Some.line) c.if-is_later.false c.is_later.ensures.1 in
-    printed_made g.D.Disk first c.args.text.now c.args.stamped s c.reply_to.new.store c.reply_to.new.disk c.reply_to.new.kept c.in-Ok-Some.line c.in-Ok.told c.gives_stamp-stamps.result c.print_of.result
-    ((c.in-Ok-Some.ensures c.in-Ok-Some.line).0 c.in-Ok-Some.field-0-is) now (c.in-Ok.ensures.replies honest first c.args.stamped s now at same) c.gives_stamp-stamps.ensures
-    c.print_of.ensures.line c.print_of.ensures.refusal c.print_of.ensures.stamps c.print_of.ensures.short
+returns-in-Ok-clause-made g c = λ honest first s at same. let now = not_later c.is_later.result (IsLater c.in-Ok-Some.line) c.if-is_later.false c.is_later.ensures.1 in
+    printed_made g.D.Disk first c.args.text.now s c.reply_to.new.store c.reply_to.new.disk c.reply_to.new.kept c.in-Ok-Some.line c.in-Ok.told c.print_of.result
+    ((c.in-Ok-Some.ensures c.in-Ok-Some.line).0 c.in-Ok-Some.field-0-is) now (c.in-Ok.ensures.replies honest first s at same)
+    c.print_of.ensures.line c.print_of.ensures.refusal c.print_of.ensures.short
 
 pub returns-in-Ok-clause-told : goal.returns-in-Ok-clause-told
 returns-in-Ok-clause-told g c =

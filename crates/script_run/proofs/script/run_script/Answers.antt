@@ -17,7 +17,7 @@ pub returns-in_default : goal.returns-in_default
 returns-in_default g c =
     let told : ScriptRun = record { end = Stopped NoMemory; met = None } in
     record {
-      run = λ honest w held calm.
+      run = λ honest w held.
           none-run g.D.Disk c.args.disk.now w (count_of c.args.store.now.frames) g.S.Source g.K.Sink c.args.input.now c.args.out.now (record c.args.store.now { frames = Firm c.count.result }) told refl refl
           (frames-held g.D.Disk c.args.disk.now c.args.disk.now c.args.store.now (Firm c.count.result) w w.machine.completed [] held);
       input = λ is. absurd cc;
@@ -40,9 +40,9 @@ lines-init g c =
       disk = same_disk g.D.Disk c.args.disk.now;
       told = λ none. told_none g.D.Disk c.args.store.now.engine c.args.disk.now none;
       met = λ none met. absurd (none-met DiskFault (sym place.met ∙ met));
-      done = λ honest w held calm.
-          none-done g.D.Disk c.args.disk.now w (count_of c.args.store.now.frames) g.S.Source g.K.Sink c.args.input.now c.args.out.now c.in-Ok.lines c.first-place.result (record c.args.store.now { frames = Firm c.count.result }) (ap Firm c.count.ensures) (ap (λ (h : Held). h.behind) c.in-Ok.ensures) place.line place.used place.stamped place.kept place.met
-          (frames-held g.D.Disk c.args.disk.now c.args.disk.now c.args.store.now (Firm c.count.result) w w.machine.completed [] held) calm;
+      done = λ honest w held.
+          none-done g.D.Disk c.args.disk.now w (count_of c.args.store.now.frames) g.S.Source g.K.Sink c.args.input.now c.args.out.now c.in-Ok.lines c.first-place.result (record c.args.store.now { frames = Firm c.count.result }) (ap Firm c.count.ensures) (ap (λ (h : Held). h.behind) c.in-Ok.ensures) place.line place.used place.kept place.met
+          (frames-held g.D.Disk c.args.disk.now c.args.disk.now c.args.store.now (Firm c.count.result) w w.machine.completed [] held);
     }
 
 pub returns-in-Some : goal.returns-in-Some
@@ -51,8 +51,8 @@ returns-in-Some g c =
     let e = c.in-Some.ensures in
     let told : ScriptRun = record { end = c.in-Some.end; met = c.turn.new.place.met } in
     record {
-      run = λ honest w held calm.
-          let d = i.done honest w held calm in
+      run = λ honest w held.
+          let d = i.done honest w held in
           run-done g.D.Disk c.args.disk.now w (count_of c.args.store.now.frames) g.S.Source g.K.Sink c.args.input.now c.lines.input c.turn.new.input c.args.out.now c.lines.out c.turn.new.out c.lines.lines c.lines.place c.turn.new.place c.lines.store c.turn.new.store c.lines.disk c.turn.new.disk told
           i.reads i.writes d (e.made (i.disk.same ∙ honest) c.args.disk.now d.script d.at d.kept) refl;
       input = λ is. rose-before (g.S.Source.fault_count c.args.input.now) (g.S.Source.fault_count c.lines.input) (g.S.Source.fault_count c.turn.new.input) i.reads (e.input_fails is);
@@ -79,8 +79,8 @@ lines-preserved g c =
       told = λ none. (e.told c.args.disk.now i.disk.later (i.told none)).1;
       met = λ none met.
           rose-either (c.lines.place.met ≡ Some DiskFault) (g.D.Disk.faults c.args.disk.now) (g.D.Disk.faults c.lines.disk) (g.D.Disk.faults c.turn.new.disk) c.turn.ensures.disk.later (i.met none) ((e.told c.args.disk.now i.disk.later (i.told none)).0 met);
-      done = λ honest w held calm.
-          let d = i.done honest w held calm in
+      done = λ honest w held.
+          let d = i.done honest w held in
           more-done g.D.Disk c.args.disk.now w (count_of c.args.store.now.frames) g.S.Source g.K.Sink c.args.input.now c.lines.input c.turn.new.input c.args.out.now c.lines.out c.turn.new.out c.lines.lines c.turn.new.lines c.lines.place c.turn.new.place c.lines.store c.turn.new.store c.lines.disk c.turn.new.disk
           e.stays d (e.made (i.disk.same ∙ honest) c.args.disk.now d.script d.at d.kept);
     }

@@ -5,7 +5,6 @@ use Rattle.wt_io.specs.Streams.{AtEnd}
 use Rattle.disk_model.specs.Crash.{SameDisk}
 use Rattle.wt_code.specs.declared.refusals.Refusal.TheVariants.{DiskFault}
 use Rattle.engine_world.specs.Worlds.{World}
-use Rattle.ckpt_step.specs.Calm.{IsCalm}
 use Rattle.engine_store.specs.Calls.{AreToldSo}
 use Rattle.engine_store.specs.Full.{count_of}
 use Rattle.engine_store.specs.Held.{IsHeld}
@@ -25,7 +24,7 @@ invariant-lines g l = record {
   disk : SameDisk g.D.Disk l.fn.disk l.disk;
   told : length l.fn.store.engine.sessions ≡ 0 → AreToldSo g.D.Disk None l.fn.disk l.store.engine l.disk;
   met : length l.fn.store.engine.sessions ≡ 0 → l.place.met ≡ Some DiskFault → Rose (g.D.Disk.faults l.fn.disk) (g.D.Disk.faults l.disk);
-  done : IsTrue (g.D.Disk.honest l.fn.disk) → (w : World) → IsHeld g.D.Disk l.fn.disk l.fn.store l.fn.disk w w.machine.completed [] → IsCalm w
+  done : IsTrue (g.D.Disk.honest l.fn.disk) → (w : World) → IsHeld g.D.Disk l.fn.disk l.fn.store l.fn.disk w w.machine.completed []
       → IsDone g.D.Disk l.fn.disk w (count_of l.fn.store.frames) g.S.Source g.K.Sink l.fn.input l.input l.fn.out l.out l.lines l.place l.store l.disk;
 }
 

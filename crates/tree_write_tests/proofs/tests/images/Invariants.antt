@@ -1,4 +1,4 @@
-use Rattle.leaf_capture.specs.Capture.{ChainsFit}
+use Rattle.reconcile.specs.Capture.{ChainsFit}
 use Rattle.tree_write_tests.proofs.tests.images.Given as goal
 
 abbrev pub invariant-loop-i : goal.invariant-loop-i

@@ -1,6 +1,6 @@
 use Rattle.std.proofs.Common.{[], ◌∷◌, sym, subst}
-use Rattle.leaf_capture.specs.Capture.{ChainsFit}
-use Rattle.leaf_capture.proofs.Fitting.{install_fits}
+use Rattle.reconcile.specs.Capture.{ChainsFit}
+use Rattle.reconcile.proofs.Fitting.{install_fits}
 use Rattle.tree_write_tests.proofs.tests.install.Goals as goal
 
 pub returns : goal.returns

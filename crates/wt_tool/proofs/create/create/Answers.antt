@@ -51,9 +51,9 @@ returns-in-Ok-make-clause-run g c h content each =
     let D = g.D.Disk in
     let disk = c.args.disk.now in
     let reads = each.0 _ (g.met.D.Disk.reads_an_image _ h) in
-    let on = (c.requires.on h).reads content reads in
+    let on = (c.requires.on h).reads content reads each.1 in
     let w = first_of D disk c.args.store on content each reads in
-    let holds = first_holds D disk c.args.store on content each reads (c.requires.on h).soft c.plain_stays.ensures.starts (λ d left. g.met.D.Disk.only_now _ d left) in
+    let holds = first_holds D disk c.args.store on content each reads (c.requires.on h).soft (λ d left. g.met.D.Disk.only_now _ d left) in
     let Run : Point → Ran → Type 0 = MakesTable c.in-Some.name.now c.in-Ok.formats Closes in
     left_as D disk (start content).completed Run (RunsCreate (words c.args.config) c.args.uri.now) (point_of D (start content) disk) c.close.new.disk c.close.result
     (whole (words c.args.config) c.args.uri.now c.in-Some.name.now c.in-Ok.formats (subst (λ (l : List ℕ). name_in l ≡ Some c.in-Some.name.now) c.as_bytes.ensures.value c.in-Some.ensures.name) c.in-Ok.ensures.formats (point_of D (start content) disk))
@@ -69,9 +69,9 @@ returns-in-Err-make-clause-run g c h content each =
     let D = g.D.Disk in
     let disk = c.args.disk.now in
     let reads = each.0 _ (g.met.D.Disk.reads_an_image _ h) in
-    let on = (c.requires.on h).reads content reads in
+    let on = (c.requires.on h).reads content reads each.1 in
     let w = first_of D disk c.args.store on content each reads in
-    let holds = first_holds D disk c.args.store on content each reads (c.requires.on h).soft c.plain_stays.ensures.starts (λ d left. g.met.D.Disk.only_now _ d left) in
+    let holds = first_holds D disk c.args.store on content each reads (c.requires.on h).soft (λ d left. g.met.D.Disk.only_now _ d left) in
     let Run : Point → Ran → Type 0 = MakesTable c.in-Some.name.now c.in-Ok.formats Closes in
     left_as D disk (start content).completed Run (RunsCreate (words c.args.config) c.args.uri.now) (point_of D (start content) disk) disk (Err c.in-Err-make.refusal)
     (whole (words c.args.config) c.args.uri.now c.in-Some.name.now c.in-Ok.formats (subst (λ (l : List ℕ). name_in l ≡ Some c.in-Some.name.now) c.as_bytes.ensures.value c.in-Some.ensures.name) c.in-Ok.ensures.formats (point_of D (start content) disk))

@@ -20,13 +20,12 @@ returns-clause-led g c disk h start first w holds =
     let D = g.D.Disk in
     let looked = (c.call_system.ensures.keeps disk).looked in
     let x = made_same D start first w c.args.store.now c.call_system.new.self disk disk c.in-Ok.table c.args.name.now c.args.formats c.call_system.result c.in-Ok.ensures (c.call_system.ensures.called disk h start w first [] holds.held) in
-    let calm = c.calm_stays.ensures.answers in
     let keep = c.checkpoints_are_kept.ensures.steps in
     elim c.match-call_system.branch [
       | in-Refused y ↦ subst (λ (r : Result (Unit {0}) Refusal). DoneBy D start first w c.call_system.new.self disk disk (System 0) (Create c.args.name.now c.args.formats) r) (sym y.result-is)
-          (create_refused_by D start first w c.args.store.now c.call_system.new.self disk disk looked (c.call_system.ensures.keeps disk).frames holds calm keep c.args.name.now c.args.formats c.call_system.result x y.in-Refused.refusal y.in-Refused.is)
+          (create_refused_by D start first w c.args.store.now c.call_system.new.self disk disk looked (c.call_system.ensures.keeps disk).frames holds keep c.args.name.now c.args.formats c.call_system.result x y.in-Refused.refusal y.in-Refused.is)
       | in_default-call_system y ↦ subst (λ (r : Result (Unit {0}) Refusal). DoneBy D start first w c.call_system.new.self disk disk (System 0) (Create c.args.name.now c.args.formats) r) (sym y.result-is)
-          (create_done_by D start first w c.args.store.now c.call_system.new.self disk disk looked (c.call_system.ensures.keeps disk).frames holds calm keep c.args.name.now c.args.formats c.call_system.result x (λ r is. y.in_default-call_system.not-Refused r is))
+          (create_done_by D start first w c.args.store.now c.call_system.new.self disk disk looked (c.call_system.ensures.keeps disk).frames holds keep c.args.name.now c.args.formats c.call_system.result x (λ r is. y.in_default-call_system.not-Refused r is))
     ]
 
 pub returns-clause-went : goal.returns-clause-went

@@ -1,7 +1,6 @@
 use Rattle.std.proofs.Common.{◌≡◌, ◌∙◌, IsTrue, List, inl, sym, subst}
 use Rattle.failure.specs.Counts.{Rose}
 use Rattle.row_page.specs.Rows.{Row}
-use Rattle.reconcile.specs.Held.{page_rows}
 use Rattle.device_read.specs.Leaves.{HasNoLeaf}
 use Rattle.device_read.specs.Rows.{put_rows}
 use Rattle.device_read.proofs.Spoilt.{page_whole}
@@ -16,10 +15,10 @@ returns-in-Ok-clause-run g c h whole spoilt pages has page there =
     let K = g.K.Sink in
     let D = g.D.Disk in
     let bytes = D.seen c.args.disk.now in
-    let same : c.in-Ok.leaf.page ≡ page = same_Some c.in-Ok.leaf.page page (sym (page_whole whole bytes c.args.reader.now c.args.place pages c.args.i c.in-Ok.leaf spoilt (c.requires.on h) has (c.in-Ok.ensures.there h)) ∙ there) in
+    let same : c.in-Ok.leaf ≡ page = same_Some c.in-Ok.leaf page (sym (page_whole whole bytes c.args.reader.now c.args.place pages c.args.i c.in-Ok.leaf spoilt (c.requires.on h) has (c.in-Ok.ensures.there h)) ∙ there) in
     let out = Rose (K.fault_count c.args.out.now) (K.fault_count c.print_page.new.out) in
     inl (behind_wider out out ⊥ (Rose (D.faults c.args.disk.now) (D.faults c.leaf.new.disk)) (K.written c.args.out.now) (K.written c.print_page.new.out) c.args.text.now.items c.print_page.new.text.items (rows_text c.args.manner.form (put_rows (along (way_of c.args.manner.reverse) page))) c.print_page.result (λ x. x) (λ no. absurd no)
-    (subst (λ (l : List Row). PutsBehind out ⊥ (K.written c.args.out.now) (K.written c.print_page.new.out) c.args.text.now.items c.print_page.new.text.items (rows_text c.args.manner.form (put_rows (along (way_of c.args.manner.reverse) l))) c.print_page.result) (c.page.ensures.rows ∙ same)
+    (subst (λ (l : List Row). PutsBehind out ⊥ (K.written c.args.out.now) (K.written c.print_page.new.out) c.args.text.now.items c.print_page.new.text.items (rows_text c.args.manner.form (put_rows (along (way_of c.args.manner.reverse) l))) c.print_page.result) same
     c.print_page.ensures.printed))
 
 pub returns-in-Ok-clause-sound : goal.returns-in-Ok-clause-sound
@@ -28,7 +27,7 @@ returns-in-Ok-clause-sound g c =
     let D = g.D.Disk in
     let out = Rose (K.fault_count c.args.out.now) (K.fault_count c.print_page.new.out) in
     err_wider out ⊥ (Rose (D.faults c.args.disk.now) (D.faults c.leaf.new.disk)) _ _ c.print_page.result (λ no. absurd no) (behind_sound out ⊥ (IsTrue (D.honest c.args.disk.now)) (D.seen c.args.disk.now) (K.written c.args.out.now) (K.written c.print_page.new.out) c.args.text.now.items c.print_page.new.text.items
-    (rows_text c.args.manner.form (put_rows (along (way_of c.args.manner.reverse) (page_rows c.page.result)))) c.print_page.result c.print_page.ensures.printed)
+    (rows_text c.args.manner.form (put_rows (along (way_of c.args.manner.reverse) c.in-Ok.leaf))) c.print_page.result c.print_page.ensures.printed)
 
 pub returns-in-Err-clause-run : goal.returns-in-Err-clause-run
 returns-in-Err-clause-run g c h whole spoilt pages has page there =

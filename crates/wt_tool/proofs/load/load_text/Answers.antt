@@ -10,7 +10,7 @@ use Rattle.wt_tool.specs.Points.{Point, Ran, point_of}
 use Rattle.wt_tool.specs.Loads.{ClosesLoad, LoadsRows, LoadsText}
 use Rattle.wt_tool.specs.Writes.{demand_of}
 use Rattle.wt_tool.proofs.Leaving.{first_of, first_holds, left_as, left_behind, left_loaded, left_refused, untouched}
-use Rattle.wt_tool.proofs.LoadEnds.{dumped_text, refused_calm, refused_sound, refused_text}
+use Rattle.wt_tool.proofs.LoadEnds.{dumped_text, refused_no_fault, refused_sound, refused_text}
 use Rattle.wt_tool.proofs.Went.{damage_none, same_honest}
 use Rattle.wt_tool.proofs.load.load_text.Goals as goal
 
@@ -32,16 +32,16 @@ pub returns-in-Err-clause-sound : goal.returns-in-Err-clause-sound
 returns-in-Err-clause-sound g c = refused_sound _ _ c.args.ended c.args.text.items c.in-Err.refusal (subst (λ (l : List ℕ). IsRefused c.args.ended l c.in-Err.refusal) c.deref.ensures.value c.in-Err.ensures.refused)
 
 pub returns-in-Err-clause-fault : goal.returns-in-Err-clause-fault
-returns-in-Err-clause-fault g c is = absurd (refused_calm c.args.ended c.args.text.items c.in-Err.refusal (subst (λ (l : List ℕ). IsRefused c.args.ended l c.in-Err.refusal) c.deref.ensures.value c.in-Err.ensures.refused) is)
+returns-in-Err-clause-fault g c is = absurd (refused_no_fault c.args.ended c.args.text.items c.in-Err.refusal (subst (λ (l : List ℕ). IsRefused c.args.ended l c.in-Err.refusal) c.deref.ensures.value c.in-Err.ensures.refused) is)
 
 pub returns-in-Ok-put_all-clause-run : goal.returns-in-Ok-put_all-clause-run
 returns-in-Ok-put_all-clause-run g c h content each =
     let D = g.D.Disk in
     let disk = c.args.disk.now in
     let reads = each.0 _ (g.met.D.Disk.reads_an_image _ h) in
-    let on = (c.requires.on h).reads content reads in
+    let on = (c.requires.on h).reads content reads each.1 in
     let w = first_of D disk c.args.store on content each reads in
-    let holds = first_holds D disk c.args.store on content each reads (c.requires.on h).soft c.plain_stays.ensures.starts (λ d left. g.met.D.Disk.only_now _ d left) in
+    let holds = first_holds D disk c.args.store on content each reads (c.requires.on h).soft (λ d left. g.met.D.Disk.only_now _ d left) in
     let Run : Point → Ran → Type 0 = Loads c.args.overwrite c.loaded_name-name.result.now c.in-Ok.dumped in
     left_as D disk (start content).completed Run (LoadsText c.args.overwrite (Renamed c.args.renamed) c.args.ended c.args.text.items) (point_of D (start content) disk) c.close.new.disk c.close.result
     (λ ran run. dumped_text c.args.overwrite (Renamed c.args.renamed) c.args.ended c.args.text.items c.in-Ok.dumped c.loaded_name-name.result.now (point_of D (start content) disk) ran c.in-Ok.ensures.ended (subst (λ (l : List ℕ). IsDumped (lines_in l) c.in-Ok.dumped) c.deref.ensures.value c.in-Ok.ensures.dump) c.loaded_name-name.ensures run)
@@ -63,9 +63,9 @@ returns-in-Err-put_all-clause-run g c h content each =
     let D = g.D.Disk in
     let disk = c.args.disk.now in
     let reads = each.0 _ (g.met.D.Disk.reads_an_image _ h) in
-    let on = (c.requires.on h).reads content reads in
+    let on = (c.requires.on h).reads content reads each.1 in
     let w = first_of D disk c.args.store on content each reads in
-    let holds = first_holds D disk c.args.store on content each reads (c.requires.on h).soft c.plain_stays.ensures.starts (λ d left. g.met.D.Disk.only_now _ d left) in
+    let holds = first_holds D disk c.args.store on content each reads (c.requires.on h).soft (λ d left. g.met.D.Disk.only_now _ d left) in
     let Run : Point → Ran → Type 0 = Loads c.args.overwrite c.loaded_name-name.result.now c.in-Ok.dumped in
     left_as D disk (start content).completed Run (LoadsText c.args.overwrite (Renamed c.args.renamed) c.args.ended c.args.text.items) (point_of D (start content) disk) c.put_all.new.disk (Err c.in-Err-put_all.refusal)
     (λ ran run. dumped_text c.args.overwrite (Renamed c.args.renamed) c.args.ended c.args.text.items c.in-Ok.dumped c.loaded_name-name.result.now (point_of D (start content) disk) ran c.in-Ok.ensures.ended (subst (λ (l : List ℕ). IsDumped (lines_in l) c.in-Ok.dumped) c.deref.ensures.value c.in-Ok.ensures.dump) c.loaded_name-name.ensures run)

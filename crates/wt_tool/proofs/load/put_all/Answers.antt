@@ -66,7 +66,7 @@ returns-in-Err-put_next-clause-led g c h start first w holds =
     (row_taken c.in-Ok-Some.field-0 (c.in-Ok-Some.key, c.in-Ok-Some.value) c.rows.rows c.next.new.self c.in-Ok-Some.field-0-is c.in-Ok-Some.ensures.row) so_far
     (λ v held. c.in-Err-put_next.ensures.led c.next.new.self mid start first v held) in
     subst (λ (r : Refusal). LedBy D start first w c.put_next.new.store c.args.disk.now c.put_next.new.disk (First c.args.name.now c.args.formats c.args.overwrite c.args.rows) ClosesLoad (let x : Result (Unit {0}) Refusal = Err r in x))
-    (sym (c.told_as.ensures.calm (c.in-Err-put_next.ensures.calm mid start first so_far.0 so_far.1))) led
+    (sym (c.told_as.ensures.undamaged (c.in-Err-put_next.ensures.undamaged mid start first so_far.0 so_far.1))) led
 
 pub returns-in-Err-put_next-clause-went : goal.returns-in-Err-put_next-clause-went
 returns-in-Err-put_next-clause-went g c =

@@ -49,16 +49,16 @@ returns-in-Err-call-clause-led g c rows h start first w holds =
 pub returns-in-Err-call-clause-went : goal.returns-in-Err-call-clause-went
 returns-in-Err-call-clause-went g c = went_then g.D.Disk c.args.store.now c.call.new.store c.call-2.new.store c.args.disk.now c.call.new.disk c.call-2.new.disk (Err c.in-Err-call.refusal) c.in-Ok.ensures.went c.in-Err-call.ensures.went
 
-pub returns-in-Ok-call-clause-calm : goal.returns-in-Ok-call-clause-calm
-returns-in-Ok-call-clause-calm g c h start first w holds =
+pub returns-in-Ok-call-clause-undamaged : goal.returns-in-Ok-call-clause-undamaged
+returns-in-Ok-call-clause-undamaged g c h start first w holds =
     let D = g.D.Disk in
     let begun = still_honest D c.args.disk.now c.call.new.disk c.in-Ok.ensures.went.looked h in
     let put = still_honest D c.call.new.disk c.call-2.new.disk c.in-Ok-call.ensures.went.looked begun in
     let one = c.in-Ok.ensures.led h start first w holds in
     let two = c.in-Ok-call.ensures.led begun start first one.0 one.1 in
-    c.commit.ensures.calm put start first two.0 two.1
+    c.commit.ensures.undamaged put start first two.0 two.1
 
-pub returns-in-Err-call-clause-calm : goal.returns-in-Err-call-clause-calm
-returns-in-Err-call-clause-calm g c h start first w holds =
+pub returns-in-Err-call-clause-undamaged : goal.returns-in-Err-call-clause-undamaged
+returns-in-Err-call-clause-undamaged g c h start first w holds =
     let one = c.in-Ok.ensures.led h start first w holds in
-    c.in-Err-call.ensures.calm (still_honest g.D.Disk c.args.disk.now c.call.new.disk c.in-Ok.ensures.went.looked h) start first one.0 one.1
+    c.in-Err-call.ensures.undamaged (still_honest g.D.Disk c.args.disk.now c.call.new.disk c.in-Ok.ensures.went.looked h) start first one.0 one.1

@@ -4,7 +4,7 @@ use Rattle.item_forms.specs.Forms.{stored_as}
 use Rattle.failure.specs.Counts.{Rose}
 use Rattle.device_read.specs.Leaves.{HasNoLeafOf}
 use Rattle.device_read.specs.Readers.{tables_in}
-use Rattle.device_read.proofs.Spoilt.{reader_whole, value_whole}
+use Rattle.device_read.proofs.Spoilt.{reader_whole}
 use Rattle.wt_tool.specs.declared.tables.TableAt.{TableAt}
 use Rattle.wt_tool.proofs.Dumping.{leaf_missing_so}
 use Rattle.wt_tool.proofs.Finding.{gives_long, gives_no_table, gives_none, gives_refused, gives_value}
@@ -40,7 +40,7 @@ returns-in-Ok-Some-clause-gives g c h whole content reads spoilt =
     let has = c.readers_have_tables.ensures whole content c.args.reader.now (reader_whole whole bytes c.args.reader.now spoilt (c.requires.on h)) reads in
     let stored = c.as_bytes-key.ensures ∙ c.in-Ok.ensures ∙ ap (λ (f : Formats). stored_as f.key c.args.key.now) c.formats_of.ensures in
     inl (gives_value content known c.args.name.now c.args.key.now c.as_bytes-key.result.now c.args.table has c.requires.table c.requires.name stored (D.faults c.args.disk.now) (D.faults c.get.new.disk) (omega (arith, c.if-key-gt-KEY_MAX.false)) c.in-Some.table c.in-Some.is c.in-Ok-Some.value
-    (λ u there. sym c.in-Ok-Some.field-0-is ∙ value_whole whole bytes content c.args.reader.now c.in-Some.table.place u c.as_bytes-key.result.now _ spoilt (c.requires.on h) reads there (c.in-Ok-Some.ensures.there h)))
+    (λ u there. sym c.in-Ok-Some.field-0-is ∙ c.readers_have_values.ensures whole bytes content c.args.reader.now c.in-Some.table.place u c.as_bytes-key.result.now _ spoilt (c.requires.on h) reads there (c.in-Ok-Some.ensures.there h)))
 
 pub returns-in-Ok-None-clause-gives : goal.returns-in-Ok-None-clause-gives
 returns-in-Ok-None-clause-gives g c h whole content reads spoilt =
@@ -50,7 +50,7 @@ returns-in-Ok-None-clause-gives g c h whole content reads spoilt =
     let has = c.readers_have_tables.ensures whole content c.args.reader.now (reader_whole whole bytes c.args.reader.now spoilt (c.requires.on h)) reads in
     let stored = c.as_bytes-key.ensures ∙ c.in-Ok.ensures ∙ ap (λ (f : Formats). stored_as f.key c.args.key.now) c.formats_of.ensures in
     inl (gives_none content known c.args.name.now c.args.key.now c.as_bytes-key.result.now c.args.table has c.requires.table c.requires.name stored (D.faults c.args.disk.now) (D.faults c.get.new.disk) (omega (arith, c.if-key-gt-KEY_MAX.false)) c.in-Some.table c.in-Some.is
-    (λ u there. sym c.in-Ok-None.field-0-is ∙ value_whole whole bytes content c.args.reader.now c.in-Some.table.place u c.as_bytes-key.result.now _ spoilt (c.requires.on h) reads there (c.in-Ok-None.ensures.there h)))
+    (λ u there. sym c.in-Ok-None.field-0-is ∙ c.readers_have_values.ensures whole bytes content c.args.reader.now c.in-Some.table.place u c.as_bytes-key.result.now _ spoilt (c.requires.on h) reads there (c.in-Ok-None.ensures.there h)))
 
 pub returns-clause-gives : goal.returns-clause-gives
 returns-clause-gives g c h whole content reads spoilt =

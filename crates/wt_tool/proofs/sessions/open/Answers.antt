@@ -5,7 +5,7 @@ use Rattle.wt_tool.proofs.sessions.open.Goals as goal
 
 pub returns-in-Ok-clause-led : goal.returns-in-Ok-clause-led
 returns-in-Ok-clause-led g c disk h start first w holds =
-    opened_done g.D.Disk start first w c.args.store.now disk holds c.open_session.new.self _ (c.in-Ok.ensures.keeps disk).frames c.calm_stays.ensures.opens (sym holds.held.stands.count ∙ c.requires.none) (c.in-Ok.ensures.opened disk h start w first [] holds.held)
+    opened_done g.D.Disk start first w c.args.store.now disk holds c.open_session.new.self _ (c.in-Ok.ensures.keeps disk).frames (sym holds.held.stands.count ∙ c.requires.none) (c.in-Ok.ensures.opened disk h start w first [] holds.held)
 
 pub returns-in-Ok-clause-went : goal.returns-in-Ok-clause-went
 returns-in-Ok-clause-went g c disk = opened_went g.D.Disk c.args.store.now c.open_session.new.self disk (c.in-Ok.ensures.keeps disk) (c.in-Ok.ensures.told disk)

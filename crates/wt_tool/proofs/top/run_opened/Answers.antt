@@ -60,7 +60,7 @@ returns-in-Create-clause-run g c h content each =
     let p : Point = point_of D (start content) c.args.disk.now in
     let config = option_map {T = Bor (List ℕ)} {U = List ℕ} (λ x. x.now) c.in-Create.config in
     left_by_calls D c.args.disk.now c.create-result.new.disk content each.1 o (meaning c.args.command.now) w (gave_none _) c.reach.new.disk (RunsCreate config c.in-Create.uri.now) c.create-result.result c.told.result
-    (opens_of D (start content) c.args.disk.now c.reach.new.disk looked) (may_open D c.args.disk.now c.reach.new.disk c.in-Ok.store looked (c.in-Ok.ensures.ok h) content reads) first
+    (opens_of D (start content) c.args.disk.now c.reach.new.disk looked) (may_open D c.args.disk.now c.reach.new.disk c.in-Ok.store looked (c.in-Ok.ensures.ok h) content reads each.1) first
     (λ ran run. subst (λ (a : Command). Runs o (meaning a) p ran) (sym c.in-Create.is) run)
     (c.create-result.ensures.run (looked.same ∙ h) content ((λ d left. each.0 d (looked.images d left)), each.1))
     (took_none _) c.told.ensures.told
@@ -79,7 +79,7 @@ returns-in-Write-clause-run g c h content each =
     let first = looked_only D _ _ _ looked (λ d left. each.0 d (g.met.D.Disk.only_now _ d left)) in
     let p : Point = point_of D (start content) c.args.disk.now in
     left_by_calls D c.args.disk.now c.write-result.new.disk content each.1 o (meaning c.args.command.now) w (gave_none _) c.reach.new.disk (RunsWrite c.in-Write.overwrite c.in-Write.uri.now (pair_texts c.deref.result.now)) c.write-result.result c.told-in-Write.result
-    (opens_of D (start content) c.args.disk.now c.reach.new.disk looked) (may_open D c.args.disk.now c.reach.new.disk c.in-Ok.store looked (c.in-Ok.ensures.ok h) content reads) first
+    (opens_of D (start content) c.args.disk.now c.reach.new.disk looked) (may_open D c.args.disk.now c.reach.new.disk c.in-Ok.store looked (c.in-Ok.ensures.ok h) content reads each.1) first
     (λ ran run. subst (λ (a : Command). Runs o (meaning a) p ran) (sym c.in-Write.is)
     (subst (λ (l : List (Bor (List ℕ) × Bor (List ℕ))). Runs o (write c.in-Write.overwrite c.in-Write.uri.now (pair_texts l)) p ran) c.deref.ensures.value run))
     (c.write-result.ensures.run (looked.same ∙ h) content ((λ d left. each.0 d (looked.images d left)), each.1))
@@ -106,7 +106,7 @@ returns-in-Script-clause-run g c h content each =
     let first = looked_only D _ _ _ looked (λ d left. each.0 d (g.met.D.Disk.only_now _ d left)) in
     subst (λ (a : Command). Went D o (meaning a) content w c.args.disk.now c.script.new.disk c.script.result) (sym c.in-Script.is)
     (script_went D c.args.disk.now c.reach.new.disk c.script.new.disk content each.1 o w c.script.result
-    (opens_of D (start content) c.args.disk.now c.reach.new.disk looked) (may_open D c.args.disk.now c.reach.new.disk c.in-Ok.store looked (c.in-Ok.ensures.ok h) content reads) first
+    (opens_of D (start content) c.args.disk.now c.reach.new.disk looked) (may_open D c.args.disk.now c.reach.new.disk c.in-Ok.store looked (c.in-Ok.ensures.ok h) content reads each.1) first
     (c.script.ensures.run (looked.same ∙ h) content ((λ d left. each.0 d (looked.images d left)), each.1)))
 
 pub returns-in-Script-clause-told : goal.returns-in-Script-clause-told
@@ -133,7 +133,7 @@ returns-in-Load-clause-run g c h content each =
     let name = option_map {T = Bor (List ℕ)} {U = List ℕ} (λ x. x.now) c.in-Load.name in
     subst (λ (a : Command). Went D o (meaning a) content w c.args.disk.now c.load.new.disk c.load.result) (sym c.in-Load.is)
     (load_went D c.args.disk.now c.reach.new.disk c.load.new.disk content each.1 o w c.load.result c.in-Load.no_overwrite name
-    (opens_of D (start content) c.args.disk.now c.reach.new.disk looked) (may_open D c.args.disk.now c.reach.new.disk c.in-Ok.store looked (c.in-Ok.ensures.ok h) content reads) first (took_none _)
+    (opens_of D (start content) c.args.disk.now c.reach.new.disk looked) (may_open D c.args.disk.now c.reach.new.disk c.in-Ok.store looked (c.in-Ok.ensures.ok h) content reads each.1) first (took_none _)
     (c.load.ensures.run (looked.same ∙ h) content ((λ d left. each.0 d (looked.images d left)), each.1)))
 
 pub returns-in-Load-clause-told : goal.returns-in-Load-clause-told

@@ -82,10 +82,9 @@ returns-in-Read-clause-damaged g c h whole content reads spoilt by =
     let o : Outside = outside g.S.Source g.K.Sink c.args.input.now c.args.input.now c.args.out.now c.read.new.out in
     let w : Streams = streams_of g.S.Source g.K.Sink g.E.Sink c.args.input.now c.args.input.now c.args.out.now c.read.new.out c.args.err.now c.read.new.err in
     let p : Point = point_on D whole (start content) c.args.disk.now in
-    let whole_reader = reader_whole whole bytes c.in-Ok.reader spoilt (c.in-Ok.ensures.ok h) in
     let keys = map (λ (s : Bor (List ℕ)). s.now) c.deref.result.now in
     reading_went D c.args.disk.now c.read.new.disk whole content o (meaning c.args.command.now) w (gave_none _) both c.reach_reader.new.disk (RunsReadOn (Rose (g.K.Sink.fault_count c.args.out.now) (g.K.Sink.fault_count c.read.new.out)) bytes c.in-Read.uri.now keys) c.read.result
-    (opens_on D whole (start content) c.args.disk.now c.reach_reader.new.disk looked) (reader_may_open (device_on D whole c.args.disk.now) c.in-Ok.reader content whole_reader (numbers_whole whole bytes spoilt (c.in-Ok.ensures.numbers h)) reads)
+    (opens_on D whole (start content) c.args.disk.now c.reach_reader.new.disk looked) (reader_may_open (device_on D whole c.args.disk.now) content (numbers_whole whole bytes spoilt (c.in-Ok.ensures.numbers h)) reads)
     (λ ran run. subst (λ (a : Command). RunsOn o bytes (meaning a) p ran) (sym c.in-Read.is)
     (subst (λ (l : List (Bor (List ℕ))). RunsOn o bytes (read c.in-Read.uri.now (map (λ (s : Bor (List ℕ)). s.now) l)) p ran) c.deref.ensures.value run))
     (subst (λ (l : List ℕ). Reading (RunsReadOn (Rose (g.K.Sink.fault_count c.args.out.now) (g.K.Sink.fault_count c.read.new.out)) l c.in-Read.uri.now keys) (point_on D whole (start content) c.reach_reader.new.disk) (device_on D whole c.read.new.disk) w.out_before w.out_now w.errors c.read.result) looked.content
@@ -133,7 +132,7 @@ returns-in-List-clause-damaged g c h whole content reads spoilt by =
     let p : Point = point_on D whole (start content) c.args.disk.now in
     let whole_reader = reader_whole whole bytes c.in-Ok.reader spoilt (c.in-Ok.ensures.ok h) in
     reading_went D c.args.disk.now c.reach_reader.new.disk whole content o (meaning c.args.command.now) w (gave_none _) both c.reach_reader.new.disk (RunsList (Rose (g.K.Sink.fault_count c.args.out.now) (g.K.Sink.fault_count c.list.new.out))) c.list.result
-    (opens_on D whole (start content) c.args.disk.now c.reach_reader.new.disk looked) (reader_may_open (device_on D whole c.args.disk.now) c.in-Ok.reader content whole_reader (numbers_whole whole bytes spoilt (c.in-Ok.ensures.numbers h)) reads)
+    (opens_on D whole (start content) c.args.disk.now c.reach_reader.new.disk looked) (reader_may_open (device_on D whole c.args.disk.now) content (numbers_whole whole bytes spoilt (c.in-Ok.ensures.numbers h)) reads)
     (λ ran run. subst (λ (a : Command). RunsOn o bytes (meaning a) p ran) (sym c.in-List.is) run)
     (c.list.ensures.run content (device_on D whole c.reach_reader.new.disk) (c.readers_have_tables.ensures whole content c.in-Ok.reader whole_reader reads))
 
@@ -170,9 +169,8 @@ returns-in-Dump-clause-damaged g c h whole content reads spoilt by =
     let o : Outside = outside g.S.Source g.K.Sink c.args.input.now c.args.input.now c.args.out.now c.dump.new.out in
     let w : Streams = streams_of g.S.Source g.K.Sink g.E.Sink c.args.input.now c.args.input.now c.args.out.now c.dump.new.out c.args.err.now c.dump.new.err in
     let p : Point = point_on D whole (start content) c.args.disk.now in
-    let whole_reader = reader_whole whole bytes c.in-Ok.reader spoilt (c.in-Ok.ensures.ok h) in
     reading_went D c.args.disk.now c.dump.new.disk whole content o (meaning c.args.command.now) w (gave_none _) both c.reach_reader.new.disk (RunsDumpOn (Rose (g.K.Sink.fault_count c.args.out.now) (g.K.Sink.fault_count c.dump.new.out)) bytes (form_of c.in-Dump.hex) (way_of c.in-Dump.reverse) c.in-Dump.uri.now) c.dump.result
-    (opens_on D whole (start content) c.args.disk.now c.reach_reader.new.disk looked) (reader_may_open (device_on D whole c.args.disk.now) c.in-Ok.reader content whole_reader (numbers_whole whole bytes spoilt (c.in-Ok.ensures.numbers h)) reads)
+    (opens_on D whole (start content) c.args.disk.now c.reach_reader.new.disk looked) (reader_may_open (device_on D whole c.args.disk.now) content (numbers_whole whole bytes spoilt (c.in-Ok.ensures.numbers h)) reads)
     (λ ran run. subst (λ (a : Command). RunsOn o bytes (meaning a) p ran) (sym c.in-Dump.is) run)
     (subst (λ (l : List ℕ). Reading (RunsDumpOn (Rose (g.K.Sink.fault_count c.args.out.now) (g.K.Sink.fault_count c.dump.new.out)) l (form_of c.in-Dump.hex) (way_of c.in-Dump.reverse) c.in-Dump.uri.now) (point_on D whole (start content) c.reach_reader.new.disk) (device_on D whole c.dump.new.disk) w.out_before w.out_now w.errors c.dump.result) looked.content
     (c.dump.ensures.run (looked.same ∙ h) whole content reads (spoilt_now D whole c.args.disk.now c.reach_reader.new.disk looked spoilt)))

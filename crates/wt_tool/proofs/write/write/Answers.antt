@@ -39,9 +39,9 @@ returns-in-Ok-clause-run g c h content each =
     let D = g.D.Disk in
     let disk = c.args.disk.now in
     let reads = each.0 _ (g.met.D.Disk.reads_an_image _ h) in
-    let on = (c.requires.on h).reads content reads in
+    let on = (c.requires.on h).reads content reads each.1 in
     let w = first_of D disk c.args.store on content each reads in
-    let holds = first_holds D disk c.args.store on content each reads (c.requires.on h).soft c.plain_stays.ensures.starts (λ d left. g.met.D.Disk.only_now _ d left) in
+    let holds = first_holds D disk c.args.store on content each reads (c.requires.on h).soft (λ d left. g.met.D.Disk.only_now _ d left) in
     left_as D disk (start content).completed (Put c.args.overwrite c.args.pairs.now c.in-Some.name.now) (RunsWrite c.args.overwrite c.args.uri.now (pair_texts c.args.pairs.now)) (point_of D (start content) disk) c.close.new.disk c.close.result
     (λ ran run. named_goes c.args.uri.now (Written c.args.overwrite c.args.pairs.now) c.in-Some.name.now (subst (λ (l : List ℕ). name_in l ≡ Some c.in-Some.name.now) c.as_bytes.ensures.value c.in-Some.ensures.name) (point_of D (start content) disk) ran (writes_some c.in-Some.name.now (demand_of c.args.overwrite) c.args.pairs.now c.is_empty.result c.if-is_empty.false c.is_empty.ensures (point_of D (start content) disk) ran run))
     (left_behind D disk (start content).completed (Put c.args.overwrite c.args.pairs.now c.in-Some.name.now) w c.put_all.new.store disk c.put_all.new.disk Closes c.close.new.disk c.close.result (c.in-Ok.ensures.led h disk (start content).completed w holds)
@@ -62,9 +62,9 @@ returns-in-Err-clause-run g c h content each =
     let D = g.D.Disk in
     let disk = c.args.disk.now in
     let reads = each.0 _ (g.met.D.Disk.reads_an_image _ h) in
-    let on = (c.requires.on h).reads content reads in
+    let on = (c.requires.on h).reads content reads each.1 in
     let w = first_of D disk c.args.store on content each reads in
-    let holds = first_holds D disk c.args.store on content each reads (c.requires.on h).soft c.plain_stays.ensures.starts (λ d left. g.met.D.Disk.only_now _ d left) in
+    let holds = first_holds D disk c.args.store on content each reads (c.requires.on h).soft (λ d left. g.met.D.Disk.only_now _ d left) in
     left_as D disk (start content).completed (Put c.args.overwrite c.args.pairs.now c.in-Some.name.now) (RunsWrite c.args.overwrite c.args.uri.now (pair_texts c.args.pairs.now)) (point_of D (start content) disk) c.put_all.new.disk (Err c.in-Err.refusal)
     (λ ran run. named_goes c.args.uri.now (Written c.args.overwrite c.args.pairs.now) c.in-Some.name.now (subst (λ (l : List ℕ). name_in l ≡ Some c.in-Some.name.now) c.as_bytes.ensures.value c.in-Some.ensures.name) (point_of D (start content) disk) ran (writes_some c.in-Some.name.now (demand_of c.args.overwrite) c.args.pairs.now c.is_empty.result c.if-is_empty.false c.is_empty.ensures (point_of D (start content) disk) ran run))
     (left_refused D disk (start content).completed (Put c.args.overwrite c.args.pairs.now c.in-Some.name.now) w c.put_all.new.store disk c.put_all.new.disk Closes c.in-Err.refusal (c.in-Err.ensures.led h disk (start content).completed w holds))

@@ -5,7 +5,8 @@ use Rattle.stored.specs.TableTree.{Climbs, Entry}
 use Rattle.tree_open.specs.Damage.{Refused}
 use Rattle.tree_open.specs.declared.place.Upper.{Upper}
 use Rattle.device_read.specs.Lookups.{KeptLeaf}
-use Rattle.device_read.specs.Readers.{Held, entries_at, entries_in}
+use Rattle.device_read.specs.Newest.{record_at}
+use Rattle.device_read.specs.Readers.{Held, entries_at, entries_in, number_at}
 use Rattle.device_read.specs.Steps.{IsValueOf, KeySpoilsAt}
 use Rattle.device_read.proofs.LeafPlaces.{entries_climb, same_last, same_value}
 use Rattle.device_read.proofs.Readings.{value_is}
@@ -28,9 +29,10 @@ returns-clause-there g c h keeps =
     let entries = c.entries_at-entries.ensures ∙ ap (λ (l : List Upper). entries_in l c.self.inside.place) c.deref.ensures.value ∙ ap (λ (x : Held). entries_at x c.self.inside.place) c.reader.view_is ∙ ap (λ (k : KeptLeaf). entries_at held k.place) c.self.view_is in
     let marks = ap (λ (x : Held). x.marks) c.reader.view_is in
     let ids = c.deref-2.ensures.value ∙ ap (λ (x : Held). x.ids) c.reader.view_is in
+    let newest = c.newest_of-newest.ensures ∙ ap (λ (k : KeptLeaf). record_at (number_at held k.place) key held.newest) c.self.view_is in
     let last = same_last bytes (entries_at held place) read held.marks own held.ids known c.args.self.now.last c.self.inside.last entries marks ids (ap (λ (k : KeptLeaf). k.last) c.self.view_is) keeps in
-    ok_map {P = IsValueOf bytes read key own known} c.value_at.result (c.value_at.ensures.ok h last) (λ v is.
-    same_value bytes (entries_at held place) read key held.marks own held.ids known v entries marks ids is)
+    ok_map {P = IsValueOf bytes read key own known _} c.value_at.result (c.value_at.ensures.ok h last) (λ v is.
+    same_value bytes (entries_at held place) read key held.marks own held.ids known (record_at (number_at held place) key held.newest) _ v entries marks ids newest is)
 
 pub returns-clause-ok : goal.returns-clause-ok
 returns-clause-ok g c h reader keeps content t reads at =
@@ -44,10 +46,11 @@ returns-clause-ok g c h reader keeps content t reads at =
     let entries = c.entries_at-entries.ensures ∙ ap (λ (l : List Upper). entries_in l c.self.inside.place) c.deref.ensures.value ∙ ap (λ (x : Held). entries_at x c.self.inside.place) c.reader.view_is ∙ ap (λ (k : KeptLeaf). entries_at held k.place) c.self.view_is in
     let marks = ap (λ (x : Held). x.marks) c.reader.view_is in
     let ids = c.deref-2.ensures.value ∙ ap (λ (x : Held). x.ids) c.reader.view_is in
+    let newest = c.newest_of-newest.ensures ∙ ap (λ (k : KeptLeaf). record_at (number_at held k.place) key held.newest) c.self.view_is in
     let last = same_last bytes (entries_at held place) read held.marks own held.ids known c.args.self.now.last c.self.inside.last entries marks ids (ap (λ (k : KeptLeaf). k.last) c.self.view_is) keeps in
-    ok_map {P = IsValueOf bytes read key own known} c.value_at.result (c.value_at.ensures.ok h last) (λ v is.
-    value_is bytes content held place t key v reader reads at
-    (same_value bytes (entries_at held place) read key held.marks own held.ids known v entries marks ids is))
+    ok_map {P = IsValueOf bytes read key own known _} c.value_at.result (c.value_at.ensures.ok h last) (λ v is.
+    value_is bytes content held place t key v (c.what_is_read_is_regular.ensures bytes content reads) reader reads at
+    (same_value bytes (entries_at held place) read key held.marks own held.ids known (record_at (number_at held place) key held.newest) _ v entries marks ids newest is))
 
 pub returns-clause-err : goal.returns-clause-err
 returns-clause-err g c =

@@ -4,7 +4,8 @@ use Rattle.device_leaf.proofs.Opens.{err_map, ok_map}
 use Rattle.stored.specs.TableTree.{Climbs, Entry}
 use Rattle.tree_open.specs.Damage.{Refused}
 use Rattle.tree_open.specs.declared.place.Upper.{Upper}
-use Rattle.device_read.specs.Readers.{Held, entries_at, entries_in}
+use Rattle.device_read.specs.Newest.{record_at}
+use Rattle.device_read.specs.Readers.{Held, entries_at, entries_in, number_at}
 use Rattle.device_read.specs.Steps.{IsValueOf, KeySpoilsAt}
 use Rattle.device_read.proofs.LeafPlaces.{entries_climb, same_value}
 use Rattle.device_read.proofs.Readings.{value_is}
@@ -22,8 +23,8 @@ returns-clause-there g c h =
     let place = c.args.place in
     let key = c.args.key.now in
     let entries = c.entries_at.ensures ∙ ap (λ (l : List Upper). entries_in l place) c.deref.ensures.value ∙ ap (λ (x : Held). entries_at x place) c.self.view_is in
-    ok_map {P = IsValueOf bytes c.entries_at.result.now key c.self.inside.marks c.deref-2.result.now} c.value_at.result (c.value_at.ensures.ok h tt) (λ v is.
-    same_value bytes (entries_at held place) c.entries_at.result.now key held.marks c.self.inside.marks held.ids c.deref-2.result.now v entries (ap (λ (x : Held). x.marks) c.self.view_is) (c.deref-2.ensures.value ∙ ap (λ (x : Held). x.ids) c.self.view_is) is)
+    ok_map {P = IsValueOf bytes c.entries_at.result.now key c.self.inside.marks c.deref-2.result.now _} c.value_at.result (c.value_at.ensures.ok h tt) (λ v is.
+    same_value bytes (entries_at held place) c.entries_at.result.now key held.marks c.self.inside.marks held.ids c.deref-2.result.now (record_at (number_at held place) key held.newest) _ v entries (ap (λ (x : Held). x.marks) c.self.view_is) (c.deref-2.ensures.value ∙ ap (λ (x : Held). x.ids) c.self.view_is) c.newest_of.ensures is)
 
 pub returns-clause-ok : goal.returns-clause-ok
 returns-clause-ok g c h reader content t reads at =
@@ -32,9 +33,9 @@ returns-clause-ok g c h reader content t reads at =
     let place = c.args.place in
     let key = c.args.key.now in
     let entries = c.entries_at.ensures ∙ ap (λ (l : List Upper). entries_in l place) c.deref.ensures.value ∙ ap (λ (x : Held). entries_at x place) c.self.view_is in
-    ok_map {P = IsValueOf bytes c.entries_at.result.now key c.self.inside.marks c.deref-2.result.now} c.value_at.result (c.value_at.ensures.ok h tt) (λ v is.
-    value_is bytes content held place t key v reader reads at
-    (same_value bytes (entries_at held place) c.entries_at.result.now key held.marks c.self.inside.marks held.ids c.deref-2.result.now v entries (ap (λ (x : Held). x.marks) c.self.view_is) (c.deref-2.ensures.value ∙ ap (λ (x : Held). x.ids) c.self.view_is) is))
+    ok_map {P = IsValueOf bytes c.entries_at.result.now key c.self.inside.marks c.deref-2.result.now _} c.value_at.result (c.value_at.ensures.ok h tt) (λ v is.
+    value_is bytes content held place t key v (c.what_is_read_is_regular.ensures bytes content reads) reader reads at
+    (same_value bytes (entries_at held place) c.entries_at.result.now key held.marks c.self.inside.marks held.ids c.deref-2.result.now (record_at (number_at held place) key held.newest) _ v entries (ap (λ (x : Held). x.marks) c.self.view_is) (c.deref-2.ensures.value ∙ ap (λ (x : Held). x.ids) c.self.view_is) c.newest_of.ensures is))
 
 pub returns-clause-err : goal.returns-clause-err
 returns-clause-err g c =

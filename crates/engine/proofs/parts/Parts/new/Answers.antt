@@ -8,7 +8,7 @@ use Rattle.engine.proofs.parts.Parts.new.Goals as goal
 
 pub returns : goal.returns
 returns c = record {
-  stands = λ content shelf regular base. c.engines_start.ensures content shelf e regular (begins-on e c.args.run c.args.oldest c.args.stable c.args.tables c.args.dir opened c.requires.owned c.len-count.ensures.tables c.stands.ensures content shelf base);
+  stands = λ content shelf records regular base. c.engines_start.ensures content shelf records e regular (begins-on e c.args.run c.args.oldest c.args.stable c.args.tables c.args.dir opened c.requires.owned c.len-count.ensures.tables c.stands.ensures content shelf records base);
   opened = opened;
   sound = opened-sound e c.args.run c.args.oldest c.args.stable c.args.tables c.args.dir opened c.requires.owned c.requires.numbers c.requires.stamps c.requires.begun c.requires.run;
 } where

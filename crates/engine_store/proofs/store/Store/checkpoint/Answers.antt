@@ -16,11 +16,11 @@ not_down : (fault : Fault) (result : Result (Unit {0}) Refusal) → result ≡ O
 not_down fault result done down = let e : Ok tt ≡ Err (Panic fault) = sym done ∙ down in cc
 
 pub returns-in-Ok-clause-takes : goal.returns-in-Ok-clause-takes
-returns-in-Ok-clause-takes g c = λ h first_disk w first made held plain.
+returns-in-Ok-clause-takes g c = λ h first_disk w first made held.
     checkpoints_as g.D.Disk first_disk w (with_kept c.args.self.now.ground.kept w).records first made c.args.self.now c.relieve.new.self c.args.disk.now c.checkpoint.new.disk (Ok tt)
     (relieved_by g.D.Disk first_disk c.args.disk.now c.checkpoint.new.disk (λ later d left. g.met.D.Disk.counts_now _ _ d later left) (λ d left. g.met.D.Disk.only_now _ d left) (g.met.D.Disk.reads_an_image c.args.disk.now h)
-    c.args.self.now c.relieve.new.self (with_kept c.args.self.now.ground.kept w) first made held c.checkpoint.ensures.disk.later c.checkpoint.ensures.disk.room c.checkpoints_open.ensures c.downs_go.ensures plain c.checkpoints_have_newest.ensures c.checkpoint.new.ground c.checkpoint.new.engine
-    (λ old on follows device. c.in-Ok.ensures.takes h (with_kept c.args.self.now.ground.kept w) held.stands held.idle old on follows device) (λ fault down. not_down fault c.checkpoint.result c.in-Ok.is (c.checkpoint.ensures.down fault down).0) c.args.self.now.frames c.args.self.now.clock c.relieve.ensures c.checkpoint.ensures.history)
+    c.args.self.now c.relieve.new.self (with_kept c.args.self.now.ground.kept w) first made held c.checkpoint.ensures.disk.later c.checkpoint.ensures.disk.room c.checkpoints_open.ensures.read c.downs_go.ensures c.checkpoints_have_newest.ensures c.checkpoint.new.ground c.checkpoint.new.engine
+    (λ old on follows device. c.in-Ok.ensures.takes h (with_kept c.args.self.now.ground.kept w) held.stands held.idle held.kept old on follows device) (λ fault down. not_down fault c.checkpoint.result c.in-Ok.is (c.checkpoint.ensures.down fault down).0) c.args.self.now.frames c.args.self.now.clock c.relieve.ensures c.checkpoint.ensures.history)
 
 pub returns-in-Ok-clause-told : goal.returns-in-Ok-clause-told
 returns-in-Ok-clause-told g c = λ start le.
@@ -38,11 +38,11 @@ returns-in-Ok-clause-ready g c =
     }
 
 pub returns-in-Err-clause-takes : goal.returns-in-Err-clause-takes
-returns-in-Err-clause-takes g c = λ h first_disk w first made held plain.
+returns-in-Err-clause-takes g c = λ h first_disk w first made held.
     checkpoints_as g.D.Disk first_disk w (with_kept c.args.self.now.ground.kept w).records first made c.args.self.now (record c.args.self.now { engine = c.checkpoint.new.engine; ground = c.checkpoint.new.ground }) c.args.disk.now c.checkpoint.new.disk (Err c.in-Err.refusal)
     (checkpoints_by g.D.Disk first_disk c.args.disk.now c.checkpoint.new.disk (λ later d left. g.met.D.Disk.counts_now _ _ d later left) (λ d left. g.met.D.Disk.only_now _ d left) (g.met.D.Disk.reads_an_image c.args.disk.now h)
-    c.args.self.now (record c.args.self.now { engine = c.checkpoint.new.engine; ground = c.checkpoint.new.ground }) (with_kept c.args.self.now.ground.kept w) first made held c.checkpoint.ensures.disk.later c.checkpoint.ensures.disk.room c.checkpoints_open.ensures c.downs_go.ensures plain (Err c.in-Err.refusal)
-    (λ old on follows device. c.in-Err.ensures.takes h (with_kept c.args.self.now.ground.kept w) held.stands held.idle old on follows device) c.in-Err.ensures.down c.in-Err.ensures.lives c.checkpoint.ensures.history)
+    c.args.self.now (record c.args.self.now { engine = c.checkpoint.new.engine; ground = c.checkpoint.new.ground }) (with_kept c.args.self.now.ground.kept w) first made held c.checkpoint.ensures.disk.later c.checkpoint.ensures.disk.room c.checkpoints_open.ensures.read c.downs_go.ensures (Err c.in-Err.refusal)
+    (λ old on follows device. c.in-Err.ensures.takes h (with_kept c.args.self.now.ground.kept w) held.stands held.idle held.kept old on follows device) c.in-Err.ensures.down c.in-Err.ensures.lives c.checkpoint.ensures.history)
 
 pub returns-in-Err-clause-told : goal.returns-in-Err-clause-told
 returns-in-Err-clause-told g c = λ start le.

@@ -17,7 +17,7 @@ pub checkpoint-requires-clause-trees : goal.checkpoint-requires-clause-trees
 checkpoint-requires-clause-trees g c = omega (arith, no_fewer c.args.self.now.engine.hub.tables.tables c.roll_back_all.new.self.hub.tables.tables c.roll_back_all.ensures.goes.tables, c.requires.ready.trees)
 
 pub returns-clause-closes : goal.returns-clause-closes
-returns-clause-closes g c = λ h w st free old on follows device.
+returns-clause-closes g c = λ h w st free keeps old on follows device.
     let D = g.D.Disk in
     let before = c.args.self.now in
     let middle = c.roll_back_all.new.self in
@@ -29,23 +29,22 @@ returns-clause-closes g c = λ h w st free old on follows device.
       may = may;
       middle = middle;
       stands = stands;
-      takes = c.checkpoint.ensures.takes h (rolled w) stands (checkpoint_rolled w.machine ∙ free) old r.on r.follows r.since;
+      takes = c.checkpoint.ensures.takes h (rolled w) stands (checkpoint_rolled w.machine ∙ free) keeps old r.on r.follows r.since;
     })
 
 pub returns-clause-shuts : goal.returns-clause-shuts
-returns-clause-shuts g c = λ h first_disk w first made held plain.
+returns-clause-shuts g c = λ h first_disk w first made held.
     let D = g.D.Disk in
     let there = with_kept c.args.self.now.ground.kept w in
     let before = c.args.self.now in
     let middle = c.roll_back_all.new.self in
     let may = may_roll before.engine c.may_close.result c.in-Ok.field-0 c.may_close.ensures.told c.in-Ok.is there held.stands held.idle in
     let stands = c.roll_back_all.ensures.rolled_back there held.stands may in
-    let goes = c.plain_stays.ensures.rolls_back w.machine held.stands.valid plain in
     shuts_as D first_disk w there.records first made before (record c.args.self.now { engine = c.checkpoint.new.engine; ground = c.checkpoint.new.ground }) c.args.disk.now c.checkpoint.new.disk c.checkpoint.result
-    (shuts_by D first_disk c.args.disk.now (g.met.D.Disk.reads_an_image c.args.disk.now h) before there first made held plain may goes middle stands c.roll_back_all.ensures.goes
-    c.checkpoint.new.disk (λ later d left. g.met.D.Disk.counts_now _ _ d later left) (λ d left. g.met.D.Disk.only_now _ d left) c.checkpoint.ensures.disk.later c.checkpoint.ensures.disk.room c.checkpoints_open.ensures c.downs_go.ensures
+    (shuts_by D first_disk c.args.disk.now (g.met.D.Disk.reads_an_image c.args.disk.now h) before there first made held may middle stands c.roll_back_all.ensures.goes
+    c.checkpoint.new.disk (λ later d left. g.met.D.Disk.counts_now _ _ d later left) (λ d left. g.met.D.Disk.only_now _ d left) c.checkpoint.ensures.disk.later c.checkpoint.ensures.disk.room c.checkpoints_open.ensures.read c.downs_go.ensures
     (record c.args.self.now { engine = c.checkpoint.new.engine; ground = c.checkpoint.new.ground }) c.checkpoint.result c.checkpoint.ensures.lives c.checkpoint.ensures.history
-    (λ old on follows device. c.checkpoint.ensures.takes h (rolled there) stands (checkpoint_rolled w.machine ∙ held.idle) old on follows device))
+    (λ old on follows device. c.checkpoint.ensures.takes h (rolled there) stands (checkpoint_rolled w.machine ∙ held.idle) held.kept old on follows device))
 
 pub returns-clause-told : goal.returns-clause-told
 returns-clause-told g c = λ start le.
@@ -62,8 +61,8 @@ returns-clause-ready g c = record {
 }
 
 pub returns-in-Err-clause-shuts : goal.returns-in-Err-clause-shuts
-returns-in-Err-clause-shuts g c = λ h first_disk w first made held plain.
+returns-in-Err-clause-shuts g c = λ h first_disk w first made held.
     let before = c.args.self.now in
     shuts_as g.D.Disk first_disk w (with_kept before.ground.kept w).records first made before before c.args.disk.now c.args.disk.now (Err c.in-Err.refusal)
-    (shuts_refused g.D.Disk first_disk c.args.disk.now (g.met.D.Disk.reads_an_image c.args.disk.now h) before (with_kept before.ground.kept w) first made held plain c.args.disk.now before c.in-Err.refusal
+    (shuts_refused g.D.Disk first_disk c.args.disk.now (g.met.D.Disk.reads_an_image c.args.disk.now h) before (with_kept before.ground.kept w) first made held c.args.disk.now before c.in-Err.refusal
     (sym (c.may_close.ensures.told (with_kept before.ground.kept w) held.stands held.idle) ∙ c.in-Err.is) refl refl)

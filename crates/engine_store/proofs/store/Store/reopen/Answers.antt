@@ -15,7 +15,7 @@ returns-in-Ok-clause-opens g c = λ h first_disk w first made held.
     let image = g.met.D.Disk.reads_an_image c.args.disk.now h in
     let any = held.images (g.D.Disk.seen c.args.disk.now) image in
     reopens_as g.D.Disk first_disk w (with_kept c.args.self.now.ground.kept w).records first made c.args.self.now c.in-Ok.opened c.args.disk.now c.open_on.new.disk (Ok tt)
-    (reopened g.D.Disk first_disk c.args.disk.now c.open_on.new.disk c.open_on.ensures.looked image c.args.self.now (with_kept c.args.self.now.ground.kept w) first made held c.in-Ok.opened (c.in-Ok.ensures.ok h any.2.0 any.2.1) c.plain_stays.ensures.starts)
+    (reopened g.D.Disk first_disk c.args.disk.now c.open_on.new.disk c.open_on.ensures.looked image c.args.self.now (with_kept c.args.self.now.ground.kept w) first made held c.in-Ok.opened (c.in-Ok.ensures.ok h any.2.0 any.2.1 any.2.2.layered))
 
 pub returns-in-Ok-clause-told : goal.returns-in-Ok-clause-told
 returns-in-Ok-clause-told g c = λ start le told. none_told g.D.Disk None start c.open_on.new.disk c.in-Ok.opened.engine c.in-Ok.ensures.sessions

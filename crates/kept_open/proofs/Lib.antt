@@ -1,0 +1,6 @@
+mod Fitting
+mod Sorting
+mod ByLeaf
+mod KeptRecords
+mod OpenedRows
+mod ReadRecords

@@ -1,5 +1,0 @@
-use Rattle.leaf_capture.proofs.Newest.{captured-newest}
-use Rattle.leaf_capture.proofs.laws.captured_rows_are_newest.Goals as goal
-
-pub returns : goal.returns
-returns c = captured-newest

@@ -1,5 +1,0 @@
-use Rattle.leaf_capture.proofs.Cutting.{captures-cut}
-use Rattle.leaf_capture.proofs.laws.captures_are_cut.Goals as goal
-
-pub returns : goal.returns
-returns c = captures-cut

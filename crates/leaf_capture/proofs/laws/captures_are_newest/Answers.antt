@@ -1,5 +1,0 @@
-use Rattle.leaf_capture.proofs.Newest.{captures-newest}
-use Rattle.leaf_capture.proofs.laws.captures_are_newest.Goals as goal
-
-pub returns : goal.returns
-returns c = captures-newest
