@@ -51,7 +51,7 @@ in_use_same old new (b ∷ blocks) same in_use = (has_same old new b.place.offse
 
 -- ---- other slots, and all behind them as it was
 
-range_behind : (c d : List ℕ) (i n : ℕ) → drop 8192 c ≡ drop 8192 d → 8192 ≤ i → range c i n ≡ range d i n
+pub range_behind : (c d : List ℕ) (i n : ℕ) → drop 8192 c ≡ drop 8192 d → 8192 ≤ i → range c i n ≡ range d i n
 range_behind c d i n same behind = sym (range_drop c 8192 i n behind) ∙ ap (λ (l : List ℕ). range l (i - 8192) n) same ∙ range_drop d 8192 i n behind
 
 pub length_behind : (c d : List ℕ) → drop 8192 c ≡ drop 8192 d → 8192 ≤ length c → 8192 ≤ length d → length c ≡ length d

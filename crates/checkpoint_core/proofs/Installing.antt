@@ -46,10 +46,11 @@ module _ (seen now : List ℕ) (images left : List ℕ → Type 0) (old : Option
   left_either c ((d, there, long, behind), inr one) = inr (new_left c (behind ∙ ap (λ (l : List ℕ). drop 8192 l) (only d there)) long one)
 
   -- what is read then
-  pub installed_read : (last : List ℕ) (after : List ℕ → Type 0) → Installed now slot last after → IsOn last new × (length last ≡ length seen)
+  pub installed_read : (last : List ℕ) (after : List ℕ → Type 0) → Installed now slot last after → IsOn last new × (length last ≡ length seen) × (drop 8192 last ≡ drop 8192 seen)
   installed_read last after there = (
     new_left last there.behind there.long there.chooses,
     length_behind last now there.behind there.long (still_long old now has_now) ∙ ap length same,
+    there.behind ∙ ap (λ (l : List ℕ). drop 8192 l) same,
   )
 
   pub installed : (last : List ℕ) (after : List ℕ → Type 0) → Installed now slot last after → Each after (λ c. IsOn c new)
@@ -111,7 +112,7 @@ module _ {D : Type 0} (g : Ghosts D) where
   -- ---- what is read
 
   pub reads_then : (old : Option Stored) (new : Stored) (start mid end : D) (r : Result (Unit {0}) StoreError) → g.seen mid ≡ g.seen start → HasStill old (g.seen mid) → Only (g.seen mid) (g.may_leave mid) → IfErr r (λ e. OnRead e (Looked g mid end)) → IfErr r IsOfDisk
-      → OnOk r (IsOn (g.seen end) new × (length (g.seen end) ≡ length (g.seen start))) → ReadsThen g old new start end r
+      → OnOk r (IsOn (g.seen end) new × (length (g.seen end) ≡ length (g.seen start)) × (drop 8192 (g.seen end) ≡ drop 8192 (g.seen start))) → ReadsThen g old new start end r
   reads_then old new start mid end (Ok done) same still only read kind ok = ok
   reads_then old new start mid end (Err NoMemory) same still only read kind ok = absurd kind
   reads_then old new start mid end (Err NoSpace) same still only read kind ok = absurd kind

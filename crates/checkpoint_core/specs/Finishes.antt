@@ -1,6 +1,7 @@
 -- What the finish of a checkpoint leaves.
-use Rattle.std.specs.Prelude.{◌≡◌, ◌⊎◌, ℕ, ◌+◌, ◌*◌, ◌/◌, ◌≤◌, List, Option, Result, Ok, Err, IsTrue, length}
+use Rattle.std.specs.Prelude.{◌≡◌, ◌⊎◌, ℕ, ◌+◌, ◌*◌, ◌/◌, ◌≤◌, List, Option, Result, Ok, Err, IsTrue, drop, length}
 use Rattle.disk_model.specs.Crash.{Each, Keeps, LeavesOnly}
+use Rattle.disk_model.specs.Ranges.{range}
 use Rattle.disk_model.specs.declared.disk.Disk.{Ghosts}
 use Rattle.extent_list.specs.Space.{Space, Taken, HasNoRoom, end_of}
 use Rattle.wt_code.specs.declared.store_error.StoreError.{StoreError}
@@ -79,7 +80,7 @@ Installs g old new before after (Err e) = InstallFails g old new before after e
 
 -- what is read once a slot was installed, or after an error that leaves the device up
 abbrev pub ReadsThen : {D : Type 0} (g : Ghosts D) → Option Stored → Stored → D → D → Result (Unit {0}) StoreError → Type 0
-ReadsThen g old new before after (Ok done) = IsOn (g.seen after) new × (length (g.seen after) ≡ length (g.seen before))
+ReadsThen g old new before after (Ok done) = IsOn (g.seen after) new × (length (g.seen after) ≡ length (g.seen before)) × (drop 8192 (g.seen after) ≡ drop 8192 (g.seen before))
 ReadsThen g old new before after (Err (Down fault)) = Unit {0}
 ReadsThen g old new before after (Err e) = (g.seen after ≡ g.seen before) × Each (g.may_leave after) (HasStill old)
 
@@ -89,9 +90,14 @@ ReadsAfter g books old new after (Ok a) = IsOn (g.seen after) (placed_at new a) 
 ReadsAfter g books old new after (Err (Down fault)) = Unit {0}
 ReadsAfter g books old new after (Err e) = Stands (g.seen after) (g.may_leave after) books old × (end_of books.space ≤ length (g.seen after))
 
--- after an error that leaves the device up each block in use is read as it was
+-- each of these parts is as it was, by place and length; of the slots nothing is said
+pub record KeepsParts (kept : ℕ → ℕ → Type 0) (old new : List ℕ) : Type 0 where
+  pub part : (at n : ℕ) → kept at n → at + n ≤ length old → range new at n ≡ range old at n
+  pub no_shorter : length old ≤ length new
+
+-- At Ok, and after an error that leaves the device up, each block in use is read as it was.
 abbrev pub KeepsAfter : {D : Type 0} (g : Ghosts D) → Books → D → D → Result Addr StoreError → Type 0
-KeepsAfter g books before after (Ok a) = Unit {0}
+KeepsAfter g books before after (Ok a) = KeepsParts (Has books.cells) (g.seen before) (g.seen after)
 KeepsAfter g books before after (Err (Down fault)) = Unit {0}
 KeepsAfter g books before after (Err e) = Keeps (Has books.cells) (g.seen before) (g.seen after)
 

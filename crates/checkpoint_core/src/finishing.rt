@@ -22,7 +22,8 @@ use wt_code::StoreError;
 /// `NoSpace` comes exactly where no free extent has room for the record and the end would move past
 /// the capacity. After any error the checkpoint still runs, with the blocks that it had: the caller
 /// goes on with it or gives it up. After `Down` the device has the old checkpoint or, where the slot's
-/// gate was being opened, the new one; after another error the old one stands as it did.
+/// gate was being opened, the new one; after another error the old one stands as it did. After any
+/// answer but `Down` each block that was in use is read as it was.
 ///
 /// It is for an honest disk on which the old checkpoint stands, and all of the new one but its
 /// record (`WhereReady`).

@@ -1,4 +1,4 @@
--- The cells of a device that has a checkpoint: of each key of a table its newest version.
+-- The cells of a device that has a checkpoint: the rows of its tables.
 use Rattle.std.proofs.Common.{◌≡◌, ◌∙◌, ℕ, true, false, List, [], ◌∷◌, ◌++◌, Option, Some, None, refl, sym, ap, subst, inl, inr}
 use Rattle.std.specs.Prelude.{◌==◌, find, option_map}
 use Rattle.std.specs.Option.{option_to_list}
@@ -8,15 +8,18 @@ use Rattle.item.specs.declared.Change.{Change}
 use Rattle.stamp.specs.declared.Version.{Version}
 use Rattle.kv_model.specs.AgreementLaws.{head_of}
 use Rattle.kv_model.specs.Holds.{Member}
-use Rattle.kv_model.specs.History.{Placed, Table, has_table, is_at, line, of_key}
-use Rattle.kv_model.specs.Machine.{Machine}
+use Rattle.kv_model.specs.History.{Placed, Table, has_table, is_at, of_key}
+use Rattle.kv_model.specs.Machine.{Checkpoint, Machine}
 use Rattle.kv_model.specs.Regular.{AllApart, SameNumber}
+use Rattle.row_page.specs.Rows.{Row}
+use Rattle.reconcile.specs.Shows.{shown_at}
+use Rattle.stored.specs.HistoryTree.{HistoryRecord}
 use Rattle.stored.specs.Records.{TableRoot}
 use Rattle.stored.specs.Stored.{cells_in, placed_in, tables_of}
 use Rattle.stored.specs.TableTree.{TableTree}
 use Rattle.stored.specs.Tree.{join}
 use Rattle.reconcile.proofs.Keyed.{of_key_elsewhere, of_key_rows}
-use Rattle.ckpt_content.specs.Checkpoints.{AreRowsOf}
+use Rattle.ckpt_content.specs.Finished.{AreTakenOf, AreTakenRows}
 use Rattle.ckpt_content.proofs.Tables.{table_there}
 
 -- ---- the versions of a key
@@ -68,19 +71,39 @@ apart_away t known apart = elim (cases_Bool (has_table known t.number)) [
   | inr away ↦ away
 ]
 
--- of a table that is there it is the newest version
-pub cells_here : (m : Machine) (table : ℕ) (key : List ℕ) (roots : List TableRoot) (trees : List TableTree) → AllApart SameNumber (tables_of roots) → AreRowsOf m (tables_of roots) trees → has_table (tables_of roots) table ≡ true
-    → of_key table key (cells_in roots trees) ≡ option_to_list (head_of (line m.history table key))
-cells_here m table key [] trees apart are there = absurd cc
-cells_here m table key (r ∷ roots) [] apart are there = absurd are
-cells_here m table key (r ∷ roots) (tree ∷ trees) apart are there = cells_parts table key r roots tree trees ∙ elim (cases_Bool (r.table.number == table)) [
-  | inl here ↦ subst (λ (n : ℕ). of_key n key (placed_in r.table.number (join tree.leaves)) ++ of_key n key (cells_in roots trees) ≡ option_to_list (head_of (line m.history n key))) (eqb-true r.table.number table here) mine
-  | inr other ↦
-      ap (λ (l : List (Version Change)). l ++ of_key table key (cells_in roots trees)) (of_key_elsewhere r.table.number table key (join tree.leaves) other)
-      ∙ cells_here m table key roots trees apart.1 are.1 (rw other at there)
+-- the rows of a table, as they were taken, which are its cells
+pub record TakenTable (m : Machine) (c : Checkpoint) (records : List HistoryRecord) (cells : List Placed) (table : ℕ) : Type 0 where
+  pub t : Table
+  pub number : t.number ≡ table
+  pub rows : List Row
+  pub are : AreTakenRows m c records t rows
+  pub cells_are : (key : List ℕ) → of_key table key cells ≡ option_to_list (shown_at key rows)
+
+-- each table that is there has some
+pub taken_here : (m : Machine) (c : Checkpoint) (records : List HistoryRecord) (table : ℕ) (roots : List TableRoot) (trees : List TableTree) → AllApart SameNumber (tables_of roots) → AreTakenOf m c records (tables_of roots) trees → has_table (tables_of roots) table ≡ true
+    → TakenTable m c records (cells_in roots trees) table
+taken_here m c records table [] trees apart are there = absurd cc
+taken_here m c records table (r ∷ roots) [] apart are there = absurd are
+taken_here m c records table (r ∷ roots) (tree ∷ trees) apart are there = elim (cases_Bool (r.table.number == table)) [
+  | inl here ↦ record {
+    t = r.table;
+    number = eqb-true r.table.number table here;
+    rows = join tree.leaves;
+    are = are.0;
+    cells_are = λ key. subst (λ (n : ℕ). of_key n key (cells_in (r ∷ roots) (tree ∷ trees)) ≡ option_to_list (shown_at key (join tree.leaves))) (eqb-true r.table.number table here) (mine key);
+  }
+  | inr other ↦ (let rest = taken_here m c records table roots trees apart.1 are.1 (rw other at there) in record {
+    t = rest.t;
+    number = rest.number;
+    rows = rest.rows;
+    are = rest.are;
+    cells_are = λ key. cells_parts table key r roots tree trees
+        ∙ (ap (λ (l : List (Version Change)). l ++ of_key table key (cells_in roots trees)) (of_key_elsewhere r.table.number table key (join tree.leaves) other) ∙ rest.cells_are key);
+  })
 ] where
-  mine : of_key r.table.number key (placed_in r.table.number (join tree.leaves)) ++ of_key r.table.number key (cells_in roots trees) ≡ option_to_list (head_of (line m.history r.table.number key))
-  mine =
-      ap (λ (l : List (Version Change)). of_key r.table.number key (placed_in r.table.number (join tree.leaves)) ++ l) (cells_away r.table.number key roots trees (apart_away r.table (tables_of roots) apart))
+  mine : (key : List ℕ) → of_key r.table.number key (cells_in (r ∷ roots) (tree ∷ trees)) ≡ option_to_list (shown_at key (join tree.leaves))
+  mine key =
+      cells_parts r.table.number key r roots tree trees
+      ∙ (ap (λ (l : List (Version Change)). of_key r.table.number key (placed_in r.table.number (join tree.leaves)) ++ l) (cells_away r.table.number key roots trees (apart_away r.table (tables_of roots) apart))
       ∙ (append-nil (of_key r.table.number key (placed_in r.table.number (join tree.leaves)))
-      ∙ (of_key_rows r.table.number key None (join tree.leaves) are.0.fit.ascend ∙ ap option_to_list (sym (are.0.newest key))))
+      ∙ of_key_rows r.table.number key None (join tree.leaves) are.0.fit.ascend))

@@ -1,7 +1,9 @@
 pub mod Descents
 pub mod Tables
 pub mod Cells
+pub mod FinishesOpen
 pub mod CheckpointsOpen
+pub mod TakenBefore
 pub mod WrittenHistories
 pub mod EmptyHistories
 pub mod OpenedKeys

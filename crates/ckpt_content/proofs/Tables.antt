@@ -48,6 +48,16 @@ tables_descend (Resolve name writes ∷ older) orderly = tables_descend older or
 tables_descend (Undo name ∷ older) orderly = tables_descend older orderly
 tables_descend (Rts stable ∷ older) orderly = tables_descend older orderly
 
+-- so do those of a part of it
+pub tables_descend_behind : (news start : List Entry) → IsOrderly (news ++ start) → Descends (Lt table_lt) (tables start)
+tables_descend_behind [] start orderly = tables_descend start orderly
+tables_descend_behind (Create t ∷ news) start orderly = tables_descend_behind news start orderly.1
+tables_descend_behind (Commit name writes ∷ news) start orderly = tables_descend_behind news start orderly.1
+tables_descend_behind (Prepare name stamp ∷ news) start orderly = tables_descend_behind news start orderly
+tables_descend_behind (Resolve name writes ∷ news) start orderly = tables_descend_behind news start orderly.1
+tables_descend_behind (Undo name ∷ news) start orderly = tables_descend_behind news start orderly
+tables_descend_behind (Rts stable ∷ news) start orderly = tables_descend_behind news start orderly
+
 part : (m n : ℕ) → (m ≡ n → ⊥) → nat_lt n m ≡ false → nat_lt m n ≡ true
 part m n apart other = elim (cases_Bool (nat_lt m n)) [ inl is ↦ is | inr isnt ↦ absurd (apart (grind (arith, nat_tests))) ]
 
@@ -85,8 +95,8 @@ module _ (history : List Entry) (known : List Table) (are : known ≡ by_name (r
   pub there_known : (t : Table) → Member t (tables history) → Member t known
   there_known t there = subst (λ (l : List Table). Member t l) (sym are) ((order_keeps (reverse (tables history)) t).1 (member_turned t (tables history) there))
 
-  pub tables_are_one : IsOrderly history → AllApart SameNumber known → descending table_lt known ≡ tables history
-  tables_are_one orderly apart = one_descent (Lt table_lt) numbers_order (descending table_lt known) (tables history)
-      (descending-descends table_lt SameNumber numbers_sort known apart) (tables_descend history orderly)
+  pub tables_are_one : Descends (Lt table_lt) (tables history) → AllApart SameNumber known → descending table_lt known ≡ tables history
+  tables_are_one down apart = one_descent (Lt table_lt) numbers_order (descending table_lt known) (tables history)
+      (descending-descends table_lt SameNumber numbers_sort known apart) down
       (λ t there. known_there t (member-descending table_lt known t there))
       (λ t there. descending-member table_lt known t (there_known t there))

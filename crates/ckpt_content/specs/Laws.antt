@@ -1,12 +1,14 @@
 -- As what a device opens that has a checkpoint of a machine, which records serve as its history, and what an opening makes of a key.
-use Rattle.std.specs.Prelude.{◌≡◌, ℕ, true, List, []}
+use Rattle.std.specs.Prelude.{◌≡◌, ℕ, true, List, [], Option, Some}
 use Rattle.kv_model.specs.AgreementLaws.{head_of}
+use Rattle.kv_model.specs.Captures.{CapturedIn, UpTo, is_in}
 use Rattle.kv_model.specs.Content.{Content, OpensAs, IsLayered, base, start}
 use Rattle.kv_model.specs.Holds.{Member}
 use Rattle.kv_model.specs.History.{Table, has_table, line, tables}
-use Rattle.kv_model.specs.Machine.{Machine, CheckpointStart, CheckpointFinish, after}
+use Rattle.kv_model.specs.Machine.{Machine, Checkpoint, CheckpointStart, CheckpointFinish, after, finished}
 use Rattle.kv_model.specs.Marks.{recorded_mark}
 use Rattle.kv_model.specs.OpeningLaws.{cell_of}
+use Rattle.kv_model.specs.Ordered.{Older}
 use Rattle.kv_model.specs.Pending.{KeyStands}
 use Rattle.kv_model.specs.Regular.{IsRegular}
 use Rattle.kv_model.specs.StoreLaws.{Held}
@@ -20,6 +22,7 @@ use Rattle.hist_store.specs.declared.key_history.KeyHistory.{KeyHistory}
 use Rattle.hist_store.specs.Versions.{versions_of}
 use Rattle.hist_pages.specs.Records.{AreRecordsOf}
 use Rattle.ckpt_content.specs.Checkpoints.{IsCheckpointOf, IsHistoryOf}
+use Rattle.ckpt_content.specs.Finished.{IsFinishOf}
 use Rattle.ckpt_content.specs.Older.{HaveOlder}
 use Rattle.ckpt_content.specs.Opened.{AreBelow, AreKeptRecords, IsLineOf, with_cell}
 
@@ -36,6 +39,24 @@ CheckpointsOpen = (m : Machine) (number : ℕ) (s : Stored) → Valid m → IsRe
 abbrev pub ReadCheckpointsOpen : Type 0
 ReadCheckpointsOpen = (bytes : List ℕ) (m : Machine) (number : ℕ) (s : Stored) → Valid m → IsOn bytes s → IsCheckpointOf m number s
     → OpensAs (content_of s) (checkpointed m).completed
+
+-- So with one that ran beside other work: what a device has that was written of it opens as what the machine completes with it,
+abbrev pub FinishesOpen : Type 0
+FinishesOpen = (m : Machine) (c : Checkpoint) (number : ℕ) (s : Stored) → Valid m → m.checkpoint ≡ Some c → IsRegular (content_of s) → IsFinishOf m c number s
+    → OpensAs (content_of s) (finished m c).completed
+
+-- as a device has it.
+abbrev pub ReadFinishesOpen : Type 0
+ReadFinishesOpen = (bytes : List ℕ) (m : Machine) (c : Checkpoint) (number : ℕ) (s : Stored) → Valid m → m.checkpoint ≡ Some c → IsOn bytes s → IsFinishOf m c number s
+    → OpensAs (content_of s) (finished m c).completed
+
+-- A row that was taken before serves too: it stands, at or above each version that the checkpoint sees, and at or below the one that would be taken now.
+abbrev pub TakenBeforeServes : Type 0
+TakenBeforeServes = (m : Machine) (c : Checkpoint) (table : ℕ) (key : List ℕ) (cell before : Option (Version Change)) (versions : List (Version Change)) → CapturedIn m c table key cell (Held versions)
+    → ((v : Version Change) → before ≡ Some v → Member v (line m.history table key))
+    → ((v : Version Change) → Member v (line m.history table key) → is_in m.history c.prefix v ≡ true → (y : Version Change) × (before ≡ Some y) × UpTo Older v y)
+    → ((v w : Version Change) → before ≡ Some v → cell ≡ Some w → UpTo Older v w)
+    → CapturedIn m c table key before (Held versions)
 
 -- The records that are written of a history in memory serve where that has the older versions of each key.
 abbrev pub WrittenHistoriesServe : Type 0

@@ -1,4 +1,5 @@
 pub mod Older
 pub mod Checkpoints
+pub mod Finished
 pub mod Opened
 pub mod Laws

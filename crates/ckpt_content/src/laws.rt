@@ -1,5 +1,5 @@
 // Laws of checkpoints with a history.
-ghost use Rattle.ckpt_content.specs.Laws.{CheckpointsOpen, ReadCheckpointsOpen, WrittenHistoriesServe, EmptyHistoriesServe, OpenedLines, OpenedLists, KeptAreBelow, OpenedKeysStand};
+ghost use Rattle.ckpt_content.specs.Laws.{CheckpointsOpen, ReadCheckpointsOpen, FinishesOpen, ReadFinishesOpen, TakenBeforeServes, WrittenHistoriesServe, EmptyHistoriesServe, OpenedLines, OpenedLists, KeptAreBelow, OpenedKeysStand};
 
 use stored::what_is_read_is_regular;
 
@@ -10,6 +10,20 @@ pub fn checkpoints_open()
 {
     what_is_read_is_regular();
 }
+
+/// So does a device that has what is written as a checkpoint finishes which ran beside other work: it
+/// opens as what the machine completes then.
+pub fn finishes_open()
+    ensures regular { FinishesOpen }
+    ensures read { ReadFinishesOpen }
+{
+    what_is_read_is_regular();
+}
+
+/// A row that was taken while a checkpoint ran serves at its finish.
+pub fn rows_taken_before_serve()
+    ensures { TakenBeforeServes }
+{}
 
 /// The records that are written of a history in memory serve as that of a checkpoint, where it has of
 /// each key the older versions that a read can want.

@@ -10,4 +10,7 @@
 
 mod laws;
 
-pub use laws::{checkpoints_open, empty_histories_serve, opened_lines, written_histories_serve};
+pub use laws::{
+    checkpoints_open, empty_histories_serve, finishes_open, opened_lines, rows_taken_before_serve,
+    written_histories_serve,
+};

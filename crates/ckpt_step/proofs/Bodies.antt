@@ -5,7 +5,7 @@ use Rattle.std.proofs.lemmas.Bool.{false≢true}
 use Rattle.std.proofs.lemmas.List.Sums.{fold-append}
 use Rattle.disk_model.specs.declared.disk.Disk.{Ghosts}
 use Rattle.disk_model.specs.Crash.{Keeps, LeavesOnly}
-use Rattle.disk_model.proofs.Crash.{joined, keeps_fewer, keeps_trans}
+use Rattle.disk_model.proofs.Crash.{joined, keeps_fewer, keeps_refl, keeps_trans, started}
 use Rattle.block_mgr.specs.declared.cell.Cell.{Cell}
 use Rattle.block_mgr.specs.Blocks.{Books, Has}
 use Rattle.block_mgr.specs.Cells.{cell_at, is_used}
@@ -20,16 +20,15 @@ use Rattle.wt_code.specs.declared.store_error.StoreError.TheVariants.{NoMemory}
 use Rattle.checkpoint_core.specs.Finishes.{IsOld}
 use Rattle.tree_open.specs.declared.place.TreePlace.{TreePlace}
 use Rattle.tree_dir.specs.declared.leaf.Leaf.{Leaf}
-use Rattle.engine_world.specs.Worlds.{World}
 use Rattle.tree_write.specs.Captures.{Captures, IsNewOrLive, IsPlaced, MayWrite, places_of, with_addr, with_addrs}
 use Rattle.tree_write.specs.Sizes.{LacksAll, PlacesAll}
 use Rattle.tree_write.proofs.Joining.{captures_apart}
 use Rattle.hist_write.specs.declared.writing.HistoryPlace.{HistoryPlace}
 use Rattle.hist_write.specs.Cuts.{captured_blocks, sizes_of}
 use Rattle.hist_write.specs.Writes.{HistoryStopped, HistoryWritten}
-use Rattle.ckpt_content.specs.Checkpoints.{IsHistoryOf}
 use Rattle.ckpt_step.specs.Grounds.{start_cell}
 use Rattle.ckpt_step.specs.Halves.{AllTaken, AllWritten, Body, IsNewBlock, Runs, SomeTaken, SomeWritten, older_blocks}
+use Rattle.ckpt_step.specs.Moments.{IsHistoryThen, Moment}
 use Rattle.ckpt_step.specs.Rooms.{Written}
 use Rattle.ckpt_step.specs.Trees.{addrs_of, trees_blocks}
 use Rattle.ckpt_step.specs.declared.lives.Lone.{Lone}
@@ -38,15 +37,25 @@ use Rattle.ckpt_step.proofs.CapturedOrder.{apart_join}
 use Rattle.ckpt_step.proofs.HalfCells.{may_of, none_before}
 use Rattle.ckpt_step.proofs.HistoryOrder.{captured_in, history_apart, in_captured, new_distinct, no_books, none_live}
 use Rattle.ckpt_step.proofs.Members.{all_made, all_of, in_back, in_either, in_front, map_member, member_map}
+use Rattle.ckpt_step.proofs.OthersStay.{new_apart}
 use Rattle.ckpt_step.proofs.PlacedTrees.{all_both, has_apart, trees_kept}
 use Rattle.ckpt_step.proofs.Within.{ends_within}
 
-module _ {D : Type 0} (g : Ghosts D) (old : Option Stored) (lives : List Lone) (w : World) (known : List Table) (leaves : List Leaf) (had : Written) (books : Books) (places : List TreePlace) (more : List LeafPart) (captured : List Addr) (before : D) where
+module _ {D : Type 0} (g : Ghosts D) (old : Option Stored) (lives : List Lone) (n : Moment) (known : List Table) (leaves : List Leaf) (had : Written) (books : Books) (places : List TreePlace) (more : List LeafPart) (captured : List Addr) (before : D) where
   -- the trees were not all captured
-  pub trees_stopped : (books' : Books) (after : D) (e : StoreError) → SomeWritten g old lives w known leaves had books books' places more captured before after e → SomeTaken g old lives w known leaves had books books' places more captured before after e
+  pub trees_stopped : (books' : Books) (after : D) (e : StoreError) → SomeWritten g old lives n known leaves had books books' places more captured before after e → SomeTaken g old lives n known leaves had books books' places more captured before after e
   trees_stopped books' after e some = record { runs = some.runs; left = some.left; keeps = some.keeps; lacks = λ is. inl (some.lacks is) }
 
-  module _ (mid : D) (half_books : Books) (all : AllWritten g old lives w known leaves had books half_books places more captured before mid) (counts : (c : List ℕ) → g.may_leave mid c → g.left_since mid (g.moment before) c) where
+  -- there was no memory for the older versions
+  pub none_gathered : Runs (g.seen before) (g.may_leave before) books old lives captured → ((c : List ℕ) → g.left_since before (g.moment before) c → g.may_leave before c) → SomeTaken g old lives n known leaves had books books places more captured before before NoMemory
+  none_gathered runs only = record {
+    runs = λ safe. runs;
+    left = started g before (IsOld (g.may_leave before) old) (λ c left. inl (only c left));
+    keeps = λ safe. keeps_refl (Has books.cells) (g.seen before);
+    lacks = λ is. absurd (cc);
+  }
+
+  module _ (mid : D) (half_books : Books) (all : AllWritten g old lives n known leaves had books half_books places more captured before mid) (counts : (c : List ℕ) → g.may_leave mid c → g.left_since mid (g.moment before) c) where
     -- blocks may be written behind them
     pub may : MayWrite (g.seen mid) (g.may_leave mid) half_books old
     may = may_of (g.seen mid) (g.may_leave mid) half_books old lives captured all.half.runs
@@ -60,10 +69,6 @@ module _ {D : Type 0} (g : Ghosts D) (old : Option Stored) (lives : List Lone) (
 
     keeps_on : (after : D) → Keeps (Has half_books.cells) (g.seen mid) (g.seen after) → Keeps (Has books.cells) (g.seen before) (g.seen after)
     keeps_on after still = keeps_trans (Has books.cells) (g.seen before) (g.seen mid) (g.seen after) all.keeps (keeps_fewer (Has half_books.cells) (Has books.cells) (g.seen mid) (g.seen after) all.used still)
-
-    -- there was no memory for the older versions
-    pub none_gathered : SomeTaken g old lives w known leaves had books half_books places more captured before mid NoMemory
-    none_gathered = record { runs = λ safe. all.half.runs; left = all.left; keeps = λ safe. all.keeps; lacks = λ is. absurd (cc) }
 
     -- blocks that are captured more, each of them new
     module _ (books' : Books) (after : D) (blocks : List Block) (sizes : List ℕ) (caught : Captures g old no_books blocks sizes half_books books' mid after) where
@@ -87,7 +92,7 @@ module _ {D : Type 0} (g : Ghosts D) (old : Option Stored) (lives : List Lone) (
         ];
       }
 
-    module _ (books' : Books) (after : D) (records : List HistoryRecord) (are : IsHistoryOf w.machine records) (addrs : List Addr) where
+    module _ (books' : Books) (after : D) (records : List HistoryRecord) (are : IsHistoryThen n records) (addrs : List Addr) where
       module _ (place : HistoryPlace) (wrote : HistoryWritten g old no_books records addrs half_books books' mid after place) (held : books'.is_held ≡ true) where
         abbrev blocks : List Block
         blocks = captured_blocks place.root wrote.tree
@@ -148,23 +153,27 @@ module _ {D : Type 0} (g : Ghosts D) (old : Option Stored) (lives : List Lone) (
         }
 
         -- all is captured
-        pub all_taken : (captured' : List Addr) → captured' ≡ captured ++ addrs → g.capacity mid ≡ g.capacity before → AllTaken g old lives w known leaves had books books' places more captured' before after place.root place.addrs.items
+        pub all_taken : (captured' : List Addr) → captured' ≡ captured ++ addrs → g.capacity mid ≡ g.capacity before → AllTaken g old lives n known leaves had books books' places more captured' before after place.root place.addrs.items
         all_taken captured' captured_are room = record {
           trees = all.trees;
           history = wrote.tree;
           body = subst (λ (l : List Addr). Body (g.seen after) (g.may_leave after) books' old lives l places all.trees place.root wrote.tree place.addrs.items) (sym (captured_are ∙ ap (λ (l : List Addr). captured ++ l) wrote.listed)) body;
           rows = all.rows;
-          older = subst (IsHistoryOf w.machine) (sym wrote.cut.whole) are;
+          older = subst (IsHistoryThen n) (sym wrote.cut.whole) are;
           left = left_on after wrote.captures.left;
           keeps = keeps_on after wrote.captures.keeps;
-          used = λ at n has. wrote.captures.used at n (all.used at n has);
+          used = λ at k has. wrote.captures.used at k (all.used at k has);
           placed = (half_books.space, sizes_of blocks, all.placed, record { records = records; are = are; root = place.root; tree = wrote.tree; cut = wrote.cut; sizes_are = refl }, subst (λ (k : ℕ). PlacesAll half_books.space k (sizes_of blocks) books'.space) room wrote.captures.places);
           by_leaves = all.by_leaves;
-          of_leaves = all.of_leaves;
+          of_tables = all.of_tables;
+          apart = λ l there live other a mine same. elim (in_either captured (places_of blocks) a (subst (λ (m : List Addr). Member a m) (captured_are ∙ ap (λ (m : List Addr). captured ++ m) wrote.listed) mine)) [
+            | inl early ↦ all.apart l there live other a early same
+            | inr late ↦ (let b = member_map {A = Block} (λ x. x.place) a blocks late in new_apart old lives l a live (subst (λ (x : Addr). IsNewBlock old lives x) (sym b.2) (is_new books' after blocks (sizes_of blocks) wrote.captures b.0.place (all_of (λ (x : Block). IsNewOrLive no_books half_books x.place) blocks b.0 wrote.captures.each b.1))) same)
+          ];
         }
 
       -- some blocks of the history are
-      pub history_stopped : (captured' : List Addr) (e : StoreError) → captured' ≡ captured ++ addrs → g.capacity mid ≡ g.capacity before → HistoryStopped g old no_books records addrs half_books books' mid after e → SomeTaken g old lives w known leaves had books books' places more captured' before after e
+      pub history_stopped : (captured' : List Addr) (e : StoreError) → captured' ≡ captured ++ addrs → g.capacity mid ≡ g.capacity before → HistoryStopped g old no_books records addrs half_books books' mid after e → SomeTaken g old lives n known leaves had books books' places more captured' before after e
       history_stopped captured' e captured_are room stopped = record {
         runs = λ safe. subst (λ (l : List Addr). Runs (g.seen after) (g.may_leave after) books' old lives l) (sym (captured_are ∙ ap (λ (l : List Addr). captured ++ l) stopped.listed)) (runs_on books' after stopped.blocks stopped.sizes (stopped.captures safe));
         left = left_on after stopped.left;

@@ -11,7 +11,7 @@ use Rattle.ckpt_step.proofs.ByPlace.{number_least}
 
 -- ---- by number
 
-number_differs : (u : Table) (later : List Table) (next : ℕ) (j : ℕ) (t : Table) → NumbersAscend (u.number + 1) later next → slice_get later j ≡ Some t → (u.number == t.number) ≡ false
+pub number_differs : (u : Table) (later : List Table) (next : ℕ) (j : ℕ) (t : Table) → NumbersAscend (u.number + 1) later next → slice_get later j ≡ Some t → (u.number == t.number) ≡ false
 number_differs u later next j t ascend is = let most = number_least (u.number + 1) later next t ascend (got-member later j t is) in ne_eqb u.number t.number (λ same. omega (arith, same, most))
 
 pub of_number_at : {A : Type 0} (none : A) (low : ℕ) (known : List Table) (next : ℕ) (xs : List A) (j : ℕ) (t : Table) → NumbersAscend low known next → slice_get known j ≡ Some t → of_number none known xs t.number ≡ slice_index_or xs j none

@@ -11,7 +11,7 @@ number_least low [] next t ascend there = absurd there
 number_least low (u ∷ later) next t ascend (inl same) = subst (λ (x : Table). low ≤ x.number) (sym same) ascend.0
 number_least low (u ∷ later) next t ascend (inr there) = omega (arith, ascend.0, number_least (u.number + 1) later next t ascend.1 there)
 
-next_above : (low : ℕ) (known : List Table) (next : ℕ) → NumbersAscend low known next → low ≤ next
+pub next_above : (low : ℕ) (known : List Table) (next : ℕ) → NumbersAscend low known next → low ≤ next
 next_above low [] next ascend = ascend
 next_above low (u ∷ later) next ascend = omega (arith, ascend.0, next_above (u.number + 1) later next ascend.1)
 

@@ -1,5 +1,5 @@
 -- A leaf to which nothing newer was committed has the rows of the checkpoint before, and when it does.
-use Rattle.std.proofs.Common.{◌≡◌, ◌∙◌, ◌≤◌, ℕ, true, false, List, [], ◌∷◌, ◌++◌, length, Option, Some, None, refl, sym, subst, inl, inr, arith}
+use Rattle.std.proofs.Common.{◌≡◌, ◌∙◌, ◌≤◌, ℕ, true, false, List, [], ◌∷◌, ◌++◌, Option, Some, None, refl, ap, sym, subst, inl, inr, arith}
 use Rattle.std.specs.Prelude.{◌==◌, bytes_eq, nat_lt}
 use Rattle.std.specs.List.{AllByRecursion}
 use Rattle.std.specs.Option.{option_to_list}
@@ -10,30 +10,27 @@ use Rattle.item.specs.declared.Change.{Change}
 use Rattle.stamp.specs.declared.Name.{Name}
 use Rattle.stamp.specs.declared.Version.{Version}
 use Rattle.kv_model.specs.AgreementLaws.{head_of}
+use Rattle.kv_model.specs.Captures.{UpTo}
 use Rattle.kv_model.specs.History.{line}
+use Rattle.kv_model.specs.Holds.{Descends, Member}
 use Rattle.kv_model.specs.Machine.{Machine}
-use Rattle.kv_model.specs.Valid.{Valid}
+use Rattle.kv_model.specs.Ordered.{Older}
+use Rattle.kv_model.proofs.Finishing.{older-order}
 use Rattle.row_page.specs.Changes.{version_in}
 use Rattle.stamp.specs.Order.{later}
 use Rattle.row_page.specs.Rows.{Row, RowFits, key_most}
 use Rattle.leaf_rows.specs.Rows.{AreFit}
 use Rattle.reconcile.specs.Shows.{shown_at}
-use Rattle.snapshot.specs.Matters.{NoneResolves, SeesCommitted}
 use Rattle.snapshot.specs.Past.{is_below}
 use Rattle.snapshot.specs.Sight.{Sight, is_seen}
 use Rattle.tree_dir.specs.declared.leaf.Leaf.{Leaf}
-use Rattle.tree_dir.specs.Leaves.{leaf_under}
 use Rattle.update_chain.specs.declared.update.Update.{Update}
-use Rattle.update_chain.specs.EventLaws.{StandsFor}
-use Rattle.leaf_frame.specs.Leaf.{HeldLeaf}
-use Rattle.leaf_chains.specs.Slots.{chain_at}
-use Rattle.reconcile.specs.Capture.{ChainFits, ChainsFit}
+use Rattle.reconcile.specs.Capture.{ChainFits}
 use Rattle.frame_capture.specs.Capture.{captured_over}
-use Rattle.frame_capture.specs.Laws.{CapturesAreNewest}
 use Rattle.ckpt_step.specs.Floors.{AreNewestBefore, AreNewestIn, is_before, newest_before}
 use Rattle.reconcile.specs.Held.{versions}
-use Rattle.leaf_frame.specs.Updates.{NoneAbove}
 use Rattle.ckpt_step.proofs.Floors.{Lower, lower_of}
+use Rattle.ckpt_step.proofs.Members.{none_some}
 
 -- ---- names
 
@@ -121,19 +118,53 @@ shown_before floor key (r ∷ rows) v fit below is = elim (cases_Bool (bytes_eq 
   | inr other ↦ shown_before floor key rows v fit.1 below.1 (rw other at is)
 ]
 
--- ---- leaves
+-- it is a version of the key, and before the floor
+pub before_there : (floor : Name) (l : List (Version Change)) (v : Version Change) → newest_before floor l ≡ Some v → Member v l × (is_before floor v.window.name ≡ true)
+before_there floor [] v is = absurd (none_some is)
+before_there floor (x ∷ older) v is = elim (cases_Bool (is_before floor x.window.name)) [
+  | inl before ↦ let same : x ≡ v = same_Some x v (rw before at is) in (inl (sym same), subst (λ (y : Version Change). is_before floor y.window.name ≡ true) same before)
+  | inr past ↦ let later : newest_before floor older ≡ Some v = rw past at is in let rest = before_there floor older v later in (inr rest.0, rest.1)
+]
 
--- where the names of a leaf in memory are below the floor, the newest versions before that are the newest of all
-pub clean_newest : CapturesAreNewest → (m : Machine) (s : Sight) (table : ℕ) (leaves : List Leaf) (l : Leaf) (held : HeldLeaf) (greatest floor : Name) (rows : List Row) → Valid m → NoneResolves m → SeesCommitted m (length m.history) s
-    → ((key : List ℕ) → leaf_under table key leaves ≡ Some l → StandsFor m table key (chain_at key held.chains) (shown_at key held.page) []) → ChainsFit held.chains → AreFit held.page → NoneAbove greatest held → is_below greatest floor ≡ true
-    → AreNewestBefore m floor leaves table l rows → AreNewestIn m leaves table l rows
-clean_newest law m s table leaves l held greatest floor rows valid none sees stand fit rows_fit above below before key under =
-    sym (newest_head floor (line m.history table key) first) ∙ before key under
+-- at or above each that is before the floor
+pub before_top : (floor : Name) (l : List (Version Change)) (v : Version Change) → Descends Older l → Member v l → is_before floor v.window.name ≡ true → (y : Version Change) × (newest_before floor l ≡ Some y) × UpTo Older v y
+before_top floor [] v down there is = absurd there
+before_top floor (x ∷ older) v down there is = elim (cases_Bool (is_before floor x.window.name)) [
+  | inl before ↦ let here : newest_before floor (x ∷ older) ≡ Some x = rw before refl in (x, here, elim there [ inl same ↦ inl same | inr later ↦ inr (down.0 v later) ])
+  | inr past ↦ elim there [
+    | inl same ↦ absurd (both_ways (is_before floor x.window.name) past (subst (λ (y : Version Change). is_before floor y.window.name ≡ true) same is))
+    | inr later ↦
+        let rest = before_top floor older v down.1 later is in
+        let over : newest_before floor (x ∷ older) ≡ Some rest.0 = rw past rest.1 in
+        (rest.0, over, rest.2)
+  ]
+]
+
+-- a cell that stands, before the floor, at or above each that is before the floor
+pub newest_cell : (floor : Name) (l : List (Version Change)) (cell : Option (Version Change)) → Descends Older l → ((w : Version Change) → cell ≡ Some w → Member w l × (is_before floor w.window.name ≡ true))
+    → ((v : Version Change) → Member v l → is_before floor v.window.name ≡ true → (y : Version Change) × (cell ≡ Some y) × UpTo Older v y) → newest_before floor l ≡ cell
+newest_cell floor l cell down there top = by (newest_before floor l) cell refl refl
   where
-    first : (v : Version Change) → head_of (line m.history table key) ≡ Some v → is_before floor v.window.name ≡ true
-    first v is =
-        captured_before s greatest floor key (chain_at key held.chains) (shown_at key held.page) v below (above key) (fit key) (λ x. shown_id key held.page x rows_fit.fit)
-        (law m table key (chain_at key held.chains) (shown_at key held.page) s valid (λ session u wrote resolves. absurd (none session u wrote.0 resolves)) sees (stand key under) ∙ is)
+    one : (v w : Version Change) → UpTo Older v w → UpTo Older w v → v ≡ w
+    one v w (inl same) back = same
+    one v w (inr less) (inl same) = sym same
+    one v w (inr less) (inr more) = absurd (older-order.asym v w less more)
+
+    by : (o c : Option (Version Change)) → newest_before floor l ≡ o → cell ≡ c → o ≡ c
+    by None None is has = refl
+    by None (Some w) is has =
+        let own = there w has in
+        let over = before_top floor l w down own.0 own.1 in
+        absurd (none_some (sym is ∙ over.1))
+    by (Some v) c is has =
+        let own = before_there floor l v is in
+        let y = top v own.0 own.1 in
+        let held = there y.0 y.1 in
+        let over = before_top floor l y.0 down held.0 held.1 in
+        let same : over.0 ≡ v = same_Some over.0 v (sym over.1 ∙ is) in
+        ap (λ (x : Version Change). Some x) (one v y.0 y.2 (subst (λ (x : Version Change). UpTo Older y.0 x) same over.2)) ∙ (sym y.1 ∙ has)
+
+-- ---- leaves
 
 -- newest rows with names below the floor are the newest before it
 pub newest_under : (m : Machine) (table : ℕ) (leaves : List Leaf) (l : Leaf) (floor : Name) (rows : List Row) → AreFit rows → AllByRecursion (λ (r : Row). is_below r.1.window.name floor ≡ true) rows → AreNewestIn m leaves table l rows → AreNewestBefore m floor leaves table l rows

@@ -26,12 +26,11 @@ use Rattle.tree_write.specs.Steps.{LeavesStopped, links_in}
 use Rattle.tree_write.specs.Writes.{KeepSame, MayWriteOver}
 use Rattle.tree_write.proofs.Drafting.{draft_begun, draft_failed}
 use Rattle.tree_write.proofs.Parts.{RowsBelow, join_more, none_stand, part_stands}
-use Rattle.engine_world.specs.Worlds.{World}
 use Rattle.ckpt_step.specs.Drafting.{AreLeavesDrafted, Drafting, DraftStopped, IsLeafDrafted}
-use Rattle.ckpt_step.specs.Floors.{AreNewestIn}
+use Rattle.ckpt_step.specs.Moments.{AreServedIn, Moment}
 use Rattle.ckpt_step.specs.Parts.{AreOfLeaves, IsPart, LieIn, links_over, part_of, parts_of, with_parts}
 use Rattle.ckpt_step.specs.Rooms.{Written}
-use Rattle.ckpt_step.specs.Sizes.{AreNewestOf}
+use Rattle.ckpt_step.specs.Sizes.{AreServedOf}
 use Rattle.ckpt_step.specs.declared.parts.LeafPart.{LeafPart}
 use Rattle.ckpt_step.proofs.LowKeys.{first_below, over_more, parted_length, parted_more}
 use Rattle.ckpt_step.proofs.Members.{all_made}
@@ -50,46 +49,46 @@ all_into P Q (x ∷ xs) into all = (into x all.0, all_into P Q xs into all.1)
 
 -- ---- by leaf
 
-module _ (seen : List ℕ) (leaves : List Leaf) (had : Written) (w : World) (table : ℕ) where
+module _ (seen : List ℕ) (leaves : List Leaf) (had : Written) (n : Moment) (table : ℕ) where
   -- a leaf of which the same is known is captured as well
-  pub drafted_alike : (written next : Written) (l : Leaf) (images : List (List Row)) → next l.id ≡ written l.id → IsLeafDrafted seen leaves had w table written l images → IsLeafDrafted seen leaves had w table next l images
+  pub drafted_alike : (written next : Written) (l : Leaf) (images : List (List Row)) → next l.id ≡ written l.id → IsLeafDrafted seen leaves had n table written l images → IsLeafDrafted seen leaves had n table next l images
   drafted_alike written next l images same drafted =
       let part : part_of written l ≡ part_of next l = part_alike written next l (sym same) in
       record {
         is = subst (λ (es : List Entry). IsPart leaves table l es images) part drafted.is;
         many = subst (λ (es : List Entry). length es ≡ length images) part drafted.many;
-        newest = drafted.newest;
+        serve = drafted.serve;
         shelved = λ lies. drafted.shelved (lies_alike written next l (sym same) lies);
         same = subst (λ (es : List Entry). KeepSame seen (links_in (part_of had l)) (links_in es) images) part drafted.same;
       }
 
   -- the parts of the leaves so far are the same, and a leaf more has its own
-  leaves_more : (written next : Written) (front : List Leaf) (parts : List (List (List Row))) (l : Leaf) (images : List (List Row)) → AllByRecursion (λ (x : Leaf). next x.id ≡ written x.id) front → AreLeavesDrafted seen leaves had w table written front parts
-      → IsLeafDrafted seen leaves had w table next l images → AreLeavesDrafted seen leaves had w table next (front ++ l ∷ []) (parts ++ images ∷ [])
+  leaves_more : (written next : Written) (front : List Leaf) (parts : List (List (List Row))) (l : Leaf) (images : List (List Row)) → AllByRecursion (λ (x : Leaf). next x.id ≡ written x.id) front → AreLeavesDrafted seen leaves had n table written front parts
+      → IsLeafDrafted seen leaves had n table next l images → AreLeavesDrafted seen leaves had n table next (front ++ l ∷ []) (parts ++ images ∷ [])
   leaves_more written next [] [] l images same each is = (is, tt)
   leaves_more written next [] (x ∷ parts) l images same each is = absurd each
   leaves_more written next (f ∷ front) [] l images same each is = absurd each
   leaves_more written next (f ∷ front) (x ∷ parts) l images same each is =
       (drafted_alike written next f x same.0 each.0, leaves_more written next front parts l images same.1 each.1 is)
 
-  pub newest_of : (written : Written) (front : List Leaf) (parts : List (List (List Row))) → AreLeavesDrafted seen leaves had w table written front parts → AreNewestOf w.machine leaves table front parts
-  newest_of written [] [] each = tt
-  newest_of written [] (x ∷ parts) each = absurd each
-  newest_of written (f ∷ front) [] each = absurd each
-  newest_of written (f ∷ front) (x ∷ parts) each = (each.0.newest, newest_of written front parts each.1)
+  pub serve_of : (written : Written) (front : List Leaf) (parts : List (List (List Row))) → AreLeavesDrafted seen leaves had n table written front parts → AreServedOf n leaves table front parts
+  serve_of written [] [] each = tt
+  serve_of written [] (x ∷ parts) each = absurd each
+  serve_of written (f ∷ front) [] each = absurd each
+  serve_of written (f ∷ front) (x ∷ parts) each = (each.0.serve, serve_of written front parts each.1)
 
-pub fit_of : (seen : List ℕ) (leaves : List Leaf) (had : Written) (w : World) (table : ℕ) (written : Written) (front : List Leaf) (parts : List (List (List Row))) → AreLeavesDrafted seen leaves had w table written front parts → AllByRecursion (λ (images : List (List Row)). AreFit (join images)) parts
-fit_of seen leaves had w table written [] [] each = tt
-fit_of seen leaves had w table written [] (x ∷ parts) each = absurd each
-fit_of seen leaves had w table written (f ∷ front) [] each = absurd each
-fit_of seen leaves had w table written (f ∷ front) (x ∷ parts) each = (each.0.is.rows_fit, fit_of seen leaves had w table written front parts each.1)
+pub fit_of : (seen : List ℕ) (leaves : List Leaf) (had : Written) (n : Moment) (table : ℕ) (written : Written) (front : List Leaf) (parts : List (List (List Row))) → AreLeavesDrafted seen leaves had n table written front parts → AllByRecursion (λ (images : List (List Row)). AreFit (join images)) parts
+fit_of seen leaves had n table written [] [] each = tt
+fit_of seen leaves had n table written [] (x ∷ parts) each = absurd each
+fit_of seen leaves had n table written (f ∷ front) [] each = absurd each
+fit_of seen leaves had n table written (f ∷ front) (x ∷ parts) each = (each.0.is.rows_fit, fit_of seen leaves had n table written front parts each.1)
 
-newest_more : (w : World) (leaves : List Leaf) (table : ℕ) (front : List Leaf) (parts : List (List (List Row))) (l : Leaf) (images : List (List Row)) → AreNewestOf w.machine leaves table front parts → AreNewestIn w.machine leaves table l (join images)
-    → AreNewestOf w.machine leaves table (front ++ l ∷ []) (parts ++ images ∷ [])
-newest_more w leaves table [] [] l images newest is = (is, tt)
-newest_more w leaves table [] (x ∷ parts) l images newest is = absurd newest
-newest_more w leaves table (f ∷ front) [] l images newest is = absurd newest
-newest_more w leaves table (f ∷ front) (x ∷ parts) l images newest is = (newest.0, newest_more w leaves table front parts l images newest.1 is)
+serve_more : (n : Moment) (leaves : List Leaf) (table : ℕ) (front : List Leaf) (parts : List (List (List Row))) (l : Leaf) (images : List (List Row)) → AreServedOf n leaves table front parts → AreServedIn n leaves table l (join images)
+    → AreServedOf n leaves table (front ++ l ∷ []) (parts ++ images ∷ [])
+serve_more n leaves table [] [] l images serve is = (is, tt)
+serve_more n leaves table [] (x ∷ parts) l images serve is = absurd serve
+serve_more n leaves table (f ∷ front) [] l images serve is = absurd serve
+serve_more n leaves table (f ∷ front) (x ∷ parts) l images serve is = (serve.0, serve_more n leaves table front parts l images serve.1 is)
 
 -- what was written of the first leaves is none of the next one's, where their ids differ
 none_of_next : (front : List Leaf) (more : List LeafPart) (id : ℕ) → ((x : Leaf) → Contains front x → x.id ≢ id) → AreOfLeaves front more → NoneOf id more
@@ -98,8 +97,8 @@ none_of_next front (p ∷ more) id differ of = ((λ same. differ of.0.0 of.0.1 (
 
 -- ---- a draft without leaves
 
-module _ {D : Type 0} (g : Ghosts D) (old : Option Stored) (first : Books) (leaves : List Leaf) (had : Written) (w : World) (table : ℕ) (books : Books) (more : List LeafPart) (captured : List Addr) (before : D) (only : (c : List ℕ) → g.left_since before (g.moment before) c → g.may_leave before c) where
-  pub drafting_none : (was : List Link) → MayWriteOver (g.seen before) (g.may_leave before) first books old was → end_of books.space ≤ length (g.seen before) → Drafting g old first leaves had w table books books more more captured captured before before [] []
+module _ {D : Type 0} (g : Ghosts D) (old : Option Stored) (first : Books) (leaves : List Leaf) (had : Written) (n : Moment) (table : ℕ) (books : Books) (more : List LeafPart) (captured : List Addr) (before : D) (only : (c : List ℕ) → g.left_since before (g.moment before) c → g.may_leave before c) where
+  pub drafting_none : (was : List Link) → MayWriteOver (g.seen before) (g.may_leave before) first books old was → end_of books.space ≤ length (g.seen before) → Drafting g old first leaves had n table books books more more captured captured before before [] []
   drafting_none was over ready = record {
     parts = [];
     own_more = [];
@@ -116,23 +115,23 @@ module _ {D : Type 0} (g : Ghosts D) (old : Option Stored) (first : Books) (leav
 
 -- ---- a leaf more
 
--- images that may stand in want of room: they have the newest rows of a leaf
-pub record AreImagesOf (leaves : List Leaf) (w : World) (table : ℕ) (l : Leaf) (images : List (List Row)) : Type 0 where
+-- images that may stand in want of room: their rows serve as those of a leaf
+pub record AreImagesOf (leaves : List Leaf) (n : Moment) (table : ℕ) (l : Leaf) (images : List (List Row)) : Type 0 where
   pub lie : LieIn leaves table l (join images)
-  pub newest : AreNewestIn w.machine leaves table l (join images)
+  pub serve : AreServedIn n leaves table l (join images)
   pub full : AreFullLeaves images
   pub some : AllByRecursion (λ (rows : List Row). 1 ≤ length rows) images
 
-module _ {D : Type 0} (g : Ghosts D) (old : Option Stored) (first : Books) (leaves : List Leaf) (had : Written) (w : World) (table : ℕ) (books mid books' : Books) (more between_more more' : List LeafPart) (captured between_captured captured' : List Addr) (before between after : D)
-    (front : List Leaf) (es : List Entry) (drafting : Drafting g old first leaves had w table books mid more between_more captured between_captured before between front es) (l : Leaf) where
+module _ {D : Type 0} (g : Ghosts D) (old : Option Stored) (first : Books) (leaves : List Leaf) (had : Written) (n : Moment) (table : ℕ) (books mid books' : Books) (more between_more more' : List LeafPart) (captured between_captured captured' : List Addr) (before between after : D)
+    (front : List Leaf) (es : List Entry) (drafting : Drafting g old first leaves had n table books mid more between_more captured between_captured before between front es) (l : Leaf) where
   -- its images are captured
   pub drafting_more : (images : List (List Row)) (own : List Entry) (own_more : List LeafPart) (addrs : List Addr)
       → ((x : Leaf) → Contains front x → x.id ≢ l.id) → AllByRecursion (λ (p : LeafPart). p.leaf ≡ l.id) own_more → part_of (with_parts had own_more) l ≡ own
       → RowsBelow l.entry.key (join (join drafting.parts))
       → more' ≡ between_more ++ own_more → captured' ≡ between_captured ++ addrs
-      → IsLeafDrafted (g.seen before) leaves had w table (with_parts had own_more) l images
+      → IsLeafDrafted (g.seen before) leaves had n table (with_parts had own_more) l images
       → Drafted g old first books books' before after (links_over had front drafting.parts ++ aligned (links_in (part_of had l)) images) (join drafting.parts ++ images) (drafting.addrs ++ addrs) (es ++ own)
-      → Drafting g old first leaves had w table books books' more more' captured captured' before after (front ++ l ∷ []) (es ++ own)
+      → Drafting g old first leaves had n table books books' more more' captured captured' before after (front ++ l ∷ []) (es ++ own)
   drafting_more images own own_more addrs differ of part below more_are captured_are is drafted = record {
     parts = drafting.parts ++ images ∷ [];
     own_more = drafting.own_more ++ own_more;
@@ -147,7 +146,7 @@ module _ {D : Type 0} (g : Ghosts D) (old : Option Stored) (first : Books) (leav
         (subst (λ (m : List Link). Drafted g old first books books' before after m (join drafting.parts ++ images) (drafting.addrs ++ addrs) (es ++ own)) (sym (over_more had front drafting.parts l images (parted_length leaves table front drafting.parts drafting.parted))) drafted);
     stand = part_stands es own drafting.parts images drafting.drafted.written.bear drafting.stand own_part.stay own_part.full own_part.some (first_below own l.entry.key (join (join drafting.parts)) own_part.begins below);
     entries_are = ap (λ (m : List Entry). m ++ own) (drafting.entries_are ∙ sym (parts_alike (with_parts had (drafting.own_more ++ own_more)) (with_parts had drafting.own_more) front same)) ∙ (ap (λ (m : List Entry). parts_of (with_parts had (drafting.own_more ++ own_more)) front ++ m) (sym part_is) ∙ sym (parts_more (with_parts had (drafting.own_more ++ own_more)) front l));
-    each = leaves_more (g.seen before) leaves had w table (with_parts had drafting.own_more) (with_parts had (drafting.own_more ++ own_more)) front drafting.parts l images same drafting.each (drafted_alike (g.seen before) leaves had w table (with_parts had own_more) (with_parts had (drafting.own_more ++ own_more)) l images last is);
+    each = leaves_more (g.seen before) leaves had n table (with_parts had drafting.own_more) (with_parts had (drafting.own_more ++ own_more)) front drafting.parts l images same drafting.each (drafted_alike (g.seen before) leaves had n table (with_parts had own_more) (with_parts had (drafting.own_more ++ own_more)) l images last is);
   }
     where
       own_part : IsPart leaves table l own images
@@ -166,7 +165,7 @@ module _ {D : Type 0} (g : Ghosts D) (old : Option Stored) (first : Books) (leav
       part_is = part_alike (with_parts had (drafting.own_more ++ own_more)) (with_parts had own_more) l last ∙ part
 
   -- an error that is not want of room, before anything of it is captured
-  pub drafting_failed : (e : StoreError) → (e ≡ NoSpace → ⊥) → captured' ≡ between_captured → DraftStopped g old first leaves had w table books mid more more' captured captured' before between e
+  pub drafting_failed : (e : StoreError) → (e ≡ NoSpace → ⊥) → captured' ≡ between_captured → DraftStopped g old first leaves had n table books mid more more' captured captured' before between e
   drafting_failed e other captured_are =
       let stop = draft_failed g old first books mid before between (links_over had front drafting.parts) (join drafting.parts) drafting.addrs es drafting.drafted e other in
       record {
@@ -179,9 +178,9 @@ module _ {D : Type 0} (g : Ghosts D) (old : Option Stored) (first : Books) (leav
       }
 
   -- some of its images are captured, and then there is an error
-  pub drafting_stopped : (images : List (List Row)) (rest : List Leaf) (addrs : List Addr) (e : StoreError) → leaves_of table leaves ≡ front ++ l ∷ rest → captured' ≡ between_captured ++ addrs → (e ≡ NoSpace → AreImagesOf leaves w table l images)
+  pub drafting_stopped : (images : List (List Row)) (rest : List Leaf) (addrs : List Addr) (e : StoreError) → leaves_of table leaves ≡ front ++ l ∷ rest → captured' ≡ between_captured ++ addrs → (e ≡ NoSpace → AreImagesOf leaves n table l images)
       → LeavesStopped g old first books books' before after (links_over had front drafting.parts ++ aligned (links_in (part_of had l)) images) (join drafting.parts ++ images) (drafting.addrs ++ addrs) e
-      → DraftStopped g old first leaves had w table books books' more more' captured captured' before after e
+      → DraftStopped g old first leaves had n table books books' more more' captured captured' before after e
   drafting_stopped images rest addrs e all captured_are fits stop = record {
     blocks = stop.blocks;
     sizes = stop.sizes;
@@ -197,7 +196,7 @@ module _ {D : Type 0} (g : Ghosts D) (old : Option Stored) (first : Books) (leav
             first = all ∙ sym (append_assoc front (l ∷ []) rest);
             parts = drafting.parts ++ images ∷ [];
             parted = parted_more leaves table front drafting.parts l images drafting.parted fit.lie;
-            newest = newest_more w leaves table front drafting.parts l images (newest_of (g.seen before) leaves had w table (with_parts had drafting.own_more) front drafting.parts drafting.each) fit.newest;
+            serve = serve_more n leaves table front drafting.parts l images (serve_of (g.seen before) leaves had n table (with_parts had drafting.own_more) front drafting.parts drafting.each) fit.serve;
             full = all_more AreFullLeaves drafting.parts (images ∷ []) drafting.stand.full (fit.full, tt);
             some = subst (λ (m : List (List Row)). AllByRecursion (λ (rows : List Row). 1 ≤ length rows) m) (sym (join_more drafting.parts images)) (all_more (λ (rows : List Row). 1 ≤ length rows) (join drafting.parts) images drafting.stand.some fit.some);
             sizes = why.0;

@@ -25,11 +25,10 @@ use Rattle.tree_write.proofs.Aligning.{bear_length}
 use Rattle.tree_write.proofs.Joining.{captures_apart}
 use Rattle.tree_write.proofs.Trees.{places_leaves}
 use Rattle.engine_world.specs.Stands.{Engine, Stands}
-use Rattle.engine_world.specs.Worlds.{World}
-use Rattle.ckpt_content.specs.Checkpoints.{IsRowsOf}
 use Rattle.ckpt_step.specs.Drafting.{Drafting, DraftStopped}
 use Rattle.ckpt_step.specs.Goings.{BeginsIn, HasPartsAt, NotOneMore, OneMore}
 use Rattle.ckpt_step.specs.Lives.{live_addrs}
+use Rattle.ckpt_step.specs.Moments.{Moment, RowsServe}
 use Rattle.ckpt_step.specs.Parts.{IsPart, IsParted, has_rows, links_over, part_leaves, part_of, parts_of, rows_behind, with_parts}
 use Rattle.ckpt_step.specs.Rooms.{Written}
 use Rattle.ckpt_step.specs.declared.lives.Lone.{Lone}
@@ -37,7 +36,7 @@ use Rattle.ckpt_step.specs.declared.parts.LeafPart.{LeafPart}
 use Rattle.ckpt_step.proofs.CapturedOrder.{both_listed, tree_apart}
 use Rattle.ckpt_step.proofs.Apart.{over_apart}
 use Rattle.ckpt_step.proofs.Behind.{parted_whole}
-use Rattle.ckpt_step.proofs.DraftingMore.{fit_of, newest_of}
+use Rattle.ckpt_step.proofs.DraftingMore.{fit_of, serve_of}
 use Rattle.ckpt_step.proofs.Links.{all_rows}
 use Rattle.ckpt_step.proofs.OrderedByName.{all_front}
 use Rattle.ckpt_step.proofs.PartRows.{rows_of_parts}
@@ -59,9 +58,9 @@ leaf_links_rows : (es : List Entry) (leaves : List (List Row)) → AllBear table
 leaf_links_rows [] leaves bear some = refl
 leaf_links_rows (e ∷ es) leaves bear some = all_rows (e ∷ es) leaves bear some
 
-module _ {D : Type 0} (g : Ghosts D) (old : Option Stored) (first : Books) (was : List TreePlace) (lives : List Lone) (e : Engine) (had : Written) (w : World) (stands : Stands e w) (t : Table) (i : ℕ) (known_at : slice_get e.hub.tables.tables i ≡ Some t)
+module _ {D : Type 0} (g : Ghosts D) (old : Option Stored) (first : Books) (was : List TreePlace) (lives : List Lone) (e : Engine) (had : Written) (n : Moment) (stands : Stands e n.world) (t : Table) (i : ℕ) (known_at : slice_get e.hub.tables.tables i ≡ Some t)
     (books mid books' : Books) (places places' : List TreePlace) (more more' : List LeafPart) (captured mid_captured captured' : List Addr) (before between after : D)
-    (es : List Entry) (drafting : Drafting g old first e.hub.dir.leaves had w t.number books mid more more' captured mid_captured before between (leaves_of t.number e.hub.dir.leaves) es)
+    (es : List Entry) (drafting : Drafting g old first e.hub.dir.leaves had n t.number books mid more more' captured mid_captured before between (leaves_of t.number e.hub.dir.leaves) es)
     (addrs : List Addr) (captured_are : captured' ≡ mid_captured ++ addrs) where
   abbrev leaves : List Leaf
   leaves = e.hub.dir.leaves
@@ -78,11 +77,11 @@ module _ {D : Type 0} (g : Ghosts D) (old : Option Stored) (first : Books) (was 
   bear : AllBear table_kind es cut
   bear = drafting.drafted.written.bear
 
-  are : IsRowsOf w.machine t (join cut)
+  are : RowsServe n t (join cut)
   are =
       let l = stands.begun i t known_at in
-      rows_of_parts w.machine t leaves l.0 drafting.parts (once_of leaves stands.dir.once) stands.dir.begins (member_of leaves l.0 l.1) l.2 drafting.parted
-      (fit_of (g.seen before) leaves had w t.number written all drafting.parts drafting.each) (newest_of (g.seen before) leaves had w t.number written all drafting.parts drafting.each)
+      rows_of_parts n t leaves l.0 drafting.parts (once_of leaves stands.dir.once) stands.dir.begins (member_of leaves l.0 l.1) l.2 drafting.parted
+      (fit_of (g.seen before) leaves had n t.number written all drafting.parts drafting.each) (serve_of (g.seen before) leaves had n t.number written all drafting.parts drafting.each)
 
   captured_all : captured' ≡ captured ++ (drafting.addrs ++ addrs)
   captured_all = captured_are ∙ (ap (λ (m : List Addr). m ++ addrs) drafting.captured_are ∙ append_assoc captured drafting.addrs addrs)
@@ -95,8 +94,8 @@ module _ {D : Type 0} (g : Ghosts D) (old : Option Stored) (first : Books) (was 
     parts_distinct : AreDistinct (addrs_to (parts_of written all))
     parts_distinct = subst (λ (m : List Entry). AreDistinct (addrs_to m)) drafting.entries_are (subst AreDistinct (drafting.drafted.written.listed ∙ places_leaves es cut bear drafting.drafted.written.stored) (front_distinct drafting.addrs addrs distinct))
 
-    at : (l : Leaf) → Contains leaves l → l.table ≡ t.number → IsDraftedAt (g.seen before) leaves had w t.number written all drafting.parts l
-    at l there own = drafted_at (g.seen before) leaves had w t.number written all drafting.parts l drafting.each (table_in t.number leaves l (member_of leaves l there) own)
+    at : (l : Leaf) → Contains leaves l → l.table ≡ t.number → IsDraftedAt (g.seen before) leaves had n t.number written all drafting.parts l
+    at l there own = drafted_at (g.seen before) leaves had n t.number written all drafting.parts l drafting.each (table_in t.number leaves l (member_of leaves l there) own)
 
     -- by its links a leaf of the directory has its images
     behind : (l : Leaf) (there : Contains leaves l) (own : l.table ≡ t.number) → part_leaves place wrote.tree (part_of written l) ≡ (at l there own).images
@@ -105,9 +104,9 @@ module _ {D : Type 0} (g : Ghosts D) (old : Option Stored) (first : Books) (was 
         let one = at l there own in
         ap (λ (m : List Link). map {A = Entry} (λ x. rows_behind m wrote.tree.leaves x.link) part) links_are
         ∙ (ap (λ (m : List (List Row)). map {A = Entry} (λ x. rows_behind (leaf_links es) m x.link) part) wrote.cut.parted
-        ∙ (tree_leaves es cut part (bear_length es cut bear) (λ x in_part. subst (λ (m : List Entry). Member x m) (sym drafting.entries_are) (drafted_within (g.seen before) leaves had w t.number written all drafting.parts l one x in_part))
+        ∙ (tree_leaves es cut part (bear_length es cut bear) (λ x in_part. subst (λ (m : List Entry). Member x m) (sym drafting.entries_are) (drafted_within (g.seen before) leaves had n t.number written all drafting.parts l one x in_part))
         ∙ (ap (λ (m : List Entry). map {A = Entry} (λ x. rows_behind (links_in m) cut x.link) part) drafting.entries_are
-        ∙ drafted_leaves (g.seen before) leaves had w t.number written all drafting.parts l parts_distinct one)))
+        ∙ drafted_leaves (g.seen before) leaves had n t.number written all drafting.parts l parts_distinct one)))
 
     joined : filter has_rows place.leaves.items ≡ links_in (parts_of written all)
     joined = ap (filter has_rows) links_are ∙ (leaf_links_rows es cut bear drafting.stand.some ∙ ap links_in drafting.entries_are)
@@ -115,7 +114,7 @@ module _ {D : Type 0} (g : Ghosts D) (old : Option Stored) (first : Books) (was 
     parted : IsParted [] leaves t.number written place wrote.tree
     parted = parted_whole leaves t.number written place wrote.tree joined (λ l there own. subst (λ (m : List (List Row)). IsPart leaves t.number l (part_of written l) m) (sym (behind l there own)) (at l there own).is.is)
 
-    pub finishes_one : ((a : Addr) → Member a (drafting.addrs ++ addrs) → IsPlaced books a ⊎ BeginsIn was (live_addrs lives (leaves_of t.number leaves)) i a) → places' ≡ places ++ place ∷ [] → OneMore g old first was lives leaves had w t i books books' places places' more more' captured captured' before after
+    pub finishes_one : ((a : Addr) → Member a (drafting.addrs ++ addrs) → IsPlaced books a ⊎ BeginsIn was (live_addrs lives (leaves_of t.number leaves)) i a) → places' ≡ places ++ place ∷ [] → OneMore g old first was lives leaves had n t i books books' places places' more more' captured captured' before after
     finishes_one own places_are = record {
       place = place;
       tree = wrote.tree;
@@ -126,7 +125,7 @@ module _ {D : Type 0} (g : Ghosts D) (old : Option Stored) (first : Books) (was 
       own_more = drafting.own_more;
       more_are = drafting.more_are;
       of_table = drafting.of_front;
-      rows = subst (λ (rows : List Row). IsRowsOf w.machine t rows) (sym wrote.cut.whole) are;
+      rows = subst (λ (rows : List Row). RowsServe n t rows) (sym wrote.cut.whole) are;
       parted = parted;
       each = λ l there own_table.
           let one = at l there own_table in
@@ -149,7 +148,7 @@ module _ {D : Type 0} (g : Ghosts D) (old : Option Stored) (first : Books) (was 
     }
 
   -- it is not whole
-  pub finishes_none : (x : StoreError) → PartsStopped g old first (links_over had all drafting.parts) drafting.parts (join cut) (drafting.addrs ++ addrs) books books' before after x → NotOneMore g old first was lives leaves had w t i books books' places places' more more' captured captured' before after x
+  pub finishes_none : (x : StoreError) → PartsStopped g old first (links_over had all drafting.parts) drafting.parts (join cut) (drafting.addrs ++ addrs) books books' before after x → NotOneMore g old first was lives leaves had n t i books books' places places' more more' captured captured' before after x
   finishes_none x stopped = record {
     rows = join cut;
     blocks = stopped.blocks;
@@ -164,9 +163,9 @@ module _ {D : Type 0} (g : Ghosts D) (old : Option Stored) (first : Books) (was 
 
 -- ---- its leaves are not all captured
 
-pub drafts_none : {D : Type 0} (g : Ghosts D) (old : Option Stored) (first : Books) (was : List TreePlace) (lives : List Lone) (listed : List Leaf) (had : Written) (w : World) (t : Table) (i : ℕ) (books books' : Books) (places places' : List TreePlace) (more more' : List LeafPart) (captured captured' : List Addr) (before after : D) (x : StoreError)
-    → DraftStopped g old first listed had w t.number books books' more more' captured captured' before after x → NotOneMore g old first was lives listed had w t i books books' places places' more more' captured captured' before after x
-drafts_none g old first was lives listed had w t i books books' places places' more more' captured captured' before after x stopped = record {
+pub drafts_none : {D : Type 0} (g : Ghosts D) (old : Option Stored) (first : Books) (was : List TreePlace) (lives : List Lone) (listed : List Leaf) (had : Written) (n : Moment) (t : Table) (i : ℕ) (books books' : Books) (places places' : List TreePlace) (more more' : List LeafPart) (captured captured' : List Addr) (before after : D) (x : StoreError)
+    → DraftStopped g old first listed had n t.number books books' more more' captured captured' before after x → NotOneMore g old first was lives listed had n t i books books' places places' more more' captured captured' before after x
+drafts_none g old first was lives listed had n t i books books' places places' more more' captured captured' before after x stopped = record {
   rows = [];
   blocks = stopped.blocks;
   sizes = stopped.sizes;

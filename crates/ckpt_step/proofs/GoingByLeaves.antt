@@ -12,13 +12,13 @@ use Rattle.stored.specs.TableTree.{Entry, TableTree}
 use Rattle.stored.specs.Tree.{join}
 use Rattle.tree_dir.specs.declared.leaf.Leaf.{Leaf}
 use Rattle.tree_dir.specs.Leaves.{Directory}
-use Rattle.engine_world.specs.Worlds.{World}
 use Rattle.tree_write.specs.Steps.{links_in}
 use Rattle.engine_world.proofs.Appended.{append-finds}
 use Rattle.tree_open.specs.declared.place.TreePlace.{TreePlace}
 use Rattle.tree_write.specs.Writes.{KeepSame}
 use Rattle.ckpt_step.specs.Goings.{OneMore}
 use Rattle.ckpt_step.specs.Halves.{ByLeaves}
+use Rattle.ckpt_step.specs.Moments.{Moment}
 use Rattle.ckpt_step.specs.Parts.{IsParted, part_leaves, part_of, with_parts}
 use Rattle.ckpt_step.specs.Rooms.{Written}
 use Rattle.ckpt_step.specs.Trees.{AreTreesAt}
@@ -31,8 +31,8 @@ use Rattle.ckpt_step.proofs.WithParts.{lies_alike, part_alike}
 use Rattle.ckpt_step.proofs.Goings.{IsAtTable}
 use Rattle.ckpt_step.proofs.GoingLinks.{part_there}
 
-module _ {D : Type 0} {g : Ghosts D} {old : Option Stored} {was : List TreePlace} {lives : List Lone} {d : Directory} {had : Written} {w : World} {known : List Table} {next : ℕ} {first : Books} {start : D} {i : ℕ} {t : Table} {books : Books} {places : List TreePlace} {more : List LeafPart} {taken : List Addr} {mid : D} (on : IsAtTable g old was lives d had w known next first start i t books places more taken mid)
-    {books' : Books} {places' : List TreePlace} {more' : List LeafPart} {taken' : List Addr} {end : D} (one : OneMore g old first was lives d.leaves had w t i books books' places places' more more' taken taken' mid end) where
+module _ {D : Type 0} {g : Ghosts D} {old : Option Stored} {was : List TreePlace} {lives : List Lone} {d : Directory} {had : Written} {n : Moment} {every known : List Table} {next : ℕ} {first : Books} {start : D} {i : ℕ} {t : Table} {books : Books} {places : List TreePlace} {more : List LeafPart} {taken : List Addr} {mid : D} (on : IsAtTable g old was lives d had n every known next first start i t books places more taken mid)
+    {books' : Books} {places' : List TreePlace} {more' : List LeafPart} {taken' : List Addr} {end : D} (one : OneMore g old first was lives d.leaves had n t i books books' places places' more more' taken taken' mid end) where
   abbrev place : TreePlace
   place = one.place
 
@@ -75,12 +75,12 @@ module _ {D : Type 0} {g : Ghosts D} {old : Option Stored} {was : List TreePlace
   ]
 
   was_alike : (j : ℕ) (u : Table) → slice_get known j ≡ Some u → (j ≡ i → ⊥) → (l : Leaf) → Contains d.leaves l → l.table ≡ u.number → with_parts had more l.id ≡ with_parts had all_parts l.id
-  was_alike j u also other l in_it own = others_alike d on.begun.dir known next on.begun.ascend had i t on.at more one.own_more on.going.of_first one.of_table j u also other l in_it own
+  was_alike j u also other l in_it own = others_alike d on.begun.dir every next on.begun.ascend known on.front had i t on.at more one.own_more on.going.of_first one.of_table j u also other l in_it own
 
   now_alike : (l : Leaf) → Contains d.leaves l → l.table ≡ t.number → with_parts had one.own_more l.id ≡ with_parts had all_parts l.id
-  now_alike l in_it own = own_alike d on.begun.dir known next on.begun.ascend had i t on.at more one.own_more on.going.of_first one.of_table l in_it own
+  now_alike l in_it own = own_alike d on.begun.dir every next on.begun.ascend known on.front had i t on.at more one.own_more on.going.of_first one.of_table l in_it own
 
-  pub leaves_more : ByLeaves (g.seen start) known d.leaves had w.shelf (places ++ place ∷ []) (on.going.trees ++ tree ∷ []) (with_parts had all_parts)
+  pub leaves_more : ByLeaves (g.seen start) known d.leaves had n.world.shelf (places ++ place ∷ []) (on.going.trees ++ tree ∷ []) (with_parts had all_parts)
   leaves_more = record {
     parted = λ j u p x known_at place_at tree_at. elim (which_tree j u p x known_at place_at tree_at) [
       | inl before ↦ parted_alike [] d.leaves u.number (with_parts had more) (with_parts had all_parts) p x (was_alike j u known_at before.other) (on.going.by_leaves.parted j u p x known_at before.place_at before.tree_at)
@@ -97,11 +97,11 @@ module _ {D : Type 0} {g : Ghosts D} {old : Option Stored} {was : List TreePlace
           (subst (λ (part : List Entry). KeepSame (g.seen start) (links_in (part_of had l)) (links_in part) (part_leaves place tree part)) (part_alike (with_parts had one.own_more) (with_parts had all_parts) l (now_alike l in_it mine)) kept))
     ];
     shelved = λ j u p x l known_at place_at tree_at in_it own lies. elim (which_tree j u p x known_at place_at tree_at) [
-      | inl before ↦ subst (λ (part : List Entry). join (part_leaves p x part) ≡ w.shelf l.id) (part_alike (with_parts had more) (with_parts had all_parts) l (was_alike j u known_at before.other l in_it own)) (on.going.by_leaves.shelved j u p x l known_at before.place_at before.tree_at in_it own (lies_alike (with_parts had more) (with_parts had all_parts) l (was_alike j u known_at before.other l in_it own) lies))
+      | inl before ↦ subst (λ (part : List Entry). join (part_leaves p x part) ≡ n.world.shelf l.id) (part_alike (with_parts had more) (with_parts had all_parts) l (was_alike j u known_at before.other l in_it own)) (on.going.by_leaves.shelved j u p x l known_at before.place_at before.tree_at in_it own (lies_alike (with_parts had more) (with_parts had all_parts) l (was_alike j u known_at before.other l in_it own) lies))
       | inr last ↦
           let mine : l.table ≡ t.number = own ∙ ap (λ (v : Table). v.number) (sym last.table) in
-          subst (λ (q : TreePlace). join (part_leaves q x (part_of (with_parts had all_parts) l)) ≡ w.shelf l.id) last.place_is
-          (subst (λ (y : TableTree). join (part_leaves place y (part_of (with_parts had all_parts) l)) ≡ w.shelf l.id) last.tree_is
-          (subst (λ (part : List Entry). join (part_leaves place tree part) ≡ w.shelf l.id) (part_alike (with_parts had one.own_more) (with_parts had all_parts) l (now_alike l in_it mine)) ((one.each l in_it mine).shelved (lies_alike (with_parts had one.own_more) (with_parts had all_parts) l (now_alike l in_it mine) lies))))
+          subst (λ (q : TreePlace). join (part_leaves q x (part_of (with_parts had all_parts) l)) ≡ n.world.shelf l.id) last.place_is
+          (subst (λ (y : TableTree). join (part_leaves place y (part_of (with_parts had all_parts) l)) ≡ n.world.shelf l.id) last.tree_is
+          (subst (λ (part : List Entry). join (part_leaves place tree part) ≡ n.world.shelf l.id) (part_alike (with_parts had one.own_more) (with_parts had all_parts) l (now_alike l in_it mine)) ((one.each l in_it mine).shelved (lies_alike (with_parts had one.own_more) (with_parts had all_parts) l (now_alike l in_it mine) lies))))
     ];
   }

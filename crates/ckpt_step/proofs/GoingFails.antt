@@ -12,12 +12,12 @@ use Rattle.stored.specs.Stored.{Stored}
 use Rattle.stored.specs.Tree.{join}
 use Rattle.tree_dir.specs.declared.leaf.Leaf.{Leaf}
 use Rattle.tree_dir.specs.Leaves.{Directory, leaves_of}
-use Rattle.engine_world.specs.Worlds.{World}
 use Rattle.tree_open.specs.declared.place.TreePlace.{TreePlace}
 use Rattle.tree_write.specs.Sizes.{LacksAll}
 use Rattle.ckpt_step.specs.Goings.{NotOneMore}
 use Rattle.ckpt_step.specs.Halves.{Runs, SomeWritten}
 use Rattle.ckpt_step.specs.Sizes.{LacksTables}
+use Rattle.ckpt_step.specs.Moments.{Moment}
 use Rattle.ckpt_step.specs.Parts.{links_over}
 use Rattle.ckpt_step.specs.Rooms.{Written}
 use Rattle.ckpt_step.specs.declared.parts.LeafPart.{LeafPart}
@@ -29,14 +29,14 @@ use Rattle.ckpt_step.proofs.PlacedTrees.{drop_at}
 use Rattle.ckpt_step.proofs.GoingLinks.{over_back}
 use Rattle.ckpt_step.proofs.GoingRuns.{runs_more}
 
-module _ {D : Type 0} {g : Ghosts D} {old : Option Stored} {was : List TreePlace} {lives : List Lone} {d : Directory} {had : Written} {w : World} {known : List Table} {next : ℕ} {first : Books} {start : D} {i : ℕ} {t : Table} {books : Books} {places : List TreePlace} {more : List LeafPart} {taken : List Addr} {mid : D} (on : IsAtTable g old was lives d had w known next first start i t books places more taken mid) (books' : Books) (places' : List TreePlace) (more' : List LeafPart) (taken' : List Addr) (end : D) where
+module _ {D : Type 0} {g : Ghosts D} {old : Option Stored} {was : List TreePlace} {lives : List Lone} {d : Directory} {had : Written} {n : Moment} {every known : List Table} {next : ℕ} {first : Books} {start : D} {i : ℕ} {t : Table} {books : Books} {places : List TreePlace} {more : List LeafPart} {taken : List Addr} {mid : D} (on : IsAtTable g old was lives d had n every known next first start i t books places more taken mid) (books' : Books) (places' : List TreePlace) (more' : List LeafPart) (taken' : List Addr) (end : D) where
   -- it fails
-  pub failed : (e : StoreError) → NotOneMore g old first was lives d.leaves had w t i books books' places places' more more' taken taken' mid end e → SomeWritten g old lives w known d.leaves had first books' places' more' taken' start end e
+  pub failed : (e : StoreError) → NotOneMore g old first was lives d.leaves had n t i books books' places places' more more' taken taken' mid end e → SomeWritten g old lives n known d.leaves had first books' places' more' taken' start end e
   failed e fail = record {
     runs = λ safe. subst (λ (l : List Addr). Runs (g.seen end) (g.may_leave end) books' old lives l) (sym fail.captured_are) (runs_more on fail.blocks fail.sizes books' end (fail.captures safe));
     left = joined g start mid end _ _ on.going.left fail.left (old_mid on);
     keeps = λ safe. keeps_trans (Has first.cells) (g.seen start) (g.seen mid) (g.seen end) on.going.keeps (keeps_fewer (Has books.cells) (Has first.cells) (g.seen mid) (g.seen end) on.going.used (fail.captures safe).keeps);
-    lacks = λ is. on.going.lacks (subst (λ (l : List Table). LacksTables (g.seen start) (g.capacity start) old d.leaves had w.machine books.space l) (sym (drop_at known i t on.at)) (elim (fail.lacks is) [
+    lacks = λ is. on.going.lacks (subst (λ (l : List Table). LacksTables (g.seen start) (g.capacity start) old d.leaves had n books.space l) (sym (drop_at known i t on.at)) (elim (fail.lacks is) [
       | inl front ↦ inl (
         front.0,
         record {
@@ -44,7 +44,7 @@ module _ {D : Type 0} {g : Ghosts D} {old : Option Stored} {was : List TreePlace
           first = front.1.first;
           parts = front.1.parts;
           parted = front.1.parted;
-          newest = front.1.newest;
+          serve = front.1.serve;
           full = front.1.full;
           some = front.1.some;
           sizes = front.1.sizes;

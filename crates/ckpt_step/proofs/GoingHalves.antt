@@ -14,13 +14,13 @@ use Rattle.stored.specs.Stored.{Stored}
 use Rattle.stored.specs.TableTree.{TableTree, root_entry, table_kind}
 use Rattle.stored.specs.Tree.{tree_blocks}
 use Rattle.tree_dir.specs.Leaves.{Directory}
-use Rattle.engine_world.specs.Worlds.{World}
 use Rattle.checkpoint_core.specs.Stands.{AreInUse}
 use Rattle.tree_open.specs.declared.place.TreePlace.{TreePlace}
 use Rattle.tree_write.specs.Captures.{places_of}
 use Rattle.ckpt_step.specs.Goings.{IsFrom, OneMore}
 use Rattle.ckpt_step.specs.Grounds.{start_cell}
 use Rattle.ckpt_step.specs.Halves.{Half, Runs}
+use Rattle.ckpt_step.specs.Moments.{Moment}
 use Rattle.ckpt_step.specs.Rooms.{Written}
 use Rattle.ckpt_step.specs.Trees.{trees_blocks}
 use Rattle.ckpt_step.specs.declared.parts.LeafPart.{LeafPart}
@@ -32,8 +32,8 @@ use Rattle.ckpt_step.proofs.GoingOnce.{one_table}
 use Rattle.ckpt_step.proofs.PlacedTrees.{addrs_more, all_both, block_addr, blocks_more, has_apart, trees_kept, trees_more}
 use Rattle.ckpt_step.proofs.GoingRuns.{own_new, runs_more}
 
-module _ {D : Type 0} {g : Ghosts D} {old : Option Stored} {was : List TreePlace} {lives : List Lone} {d : Directory} {had : Written} {w : World} {known : List Table} {next : ℕ} {first : Books} {start : D} {i : ℕ} {t : Table} {books : Books} {places : List TreePlace} {more : List LeafPart} {taken : List Addr} {mid : D} (on : IsAtTable g old was lives d had w known next first start i t books places more taken mid)
-    {books' : Books} {places' : List TreePlace} {more' : List LeafPart} {taken' : List Addr} {end : D} (one : OneMore g old first was lives d.leaves had w t i books books' places places' more more' taken taken' mid end) (held : books'.is_held ≡ true) where
+module _ {D : Type 0} {g : Ghosts D} {old : Option Stored} {was : List TreePlace} {lives : List Lone} {d : Directory} {had : Written} {n : Moment} {every known : List Table} {next : ℕ} {first : Books} {start : D} {i : ℕ} {t : Table} {books : Books} {places : List TreePlace} {more : List LeafPart} {taken : List Addr} {mid : D} (on : IsAtTable g old was lives d had n every known next first start i t books places more taken mid)
+    {books' : Books} {places' : List TreePlace} {more' : List LeafPart} {taken' : List Addr} {end : D} (one : OneMore g old first was lives d.leaves had n t i books books' places places' more more' taken taken' mid end) (held : books'.is_held ≡ true) where
   abbrev place : TreePlace
   place = one.place
 

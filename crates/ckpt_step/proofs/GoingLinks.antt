@@ -12,11 +12,11 @@ use Rattle.row_page.specs.Rows.{Row}
 use Rattle.stored.specs.Stored.{Stored}
 use Rattle.tree_dir.specs.declared.leaf.Leaf.{Leaf}
 use Rattle.tree_dir.specs.Leaves.{Directory}
-use Rattle.engine_world.specs.Worlds.{World}
 use Rattle.tree_write.specs.Steps.{links_in}
 use Rattle.tree_write.specs.Writes.{IsLiveLeaf}
 use Rattle.tree_open.specs.declared.place.TreePlace.{TreePlace}
 use Rattle.ckpt_step.specs.Floors.{AreOnDevice}
+use Rattle.ckpt_step.specs.Moments.{Moment}
 use Rattle.ckpt_step.specs.Parts.{links_over, part_of}
 use Rattle.ckpt_step.specs.Rooms.{Written}
 use Rattle.ckpt_step.specs.declared.parts.LeafPart.{LeafPart}
@@ -28,7 +28,7 @@ use Rattle.ckpt_step.proofs.Moving.{AllThere, SameThere, back_all}
 use Rattle.ckpt_step.proofs.OldParts.{part_live}
 use Rattle.ckpt_step.proofs.TableParts.{over_in}
 
-module _ {D : Type 0} {g : Ghosts D} {old : Option Stored} {was : List TreePlace} {lives : List Lone} {d : Directory} {had : Written} {w : World} {known : List Table} {next : ℕ} {first : Books} {start : D} {i : ℕ} {t : Table} {books : Books} {places : List TreePlace} {more : List LeafPart} {taken : List Addr} {mid : D} (on : IsAtTable g old was lives d had w known next first start i t books places more taken mid) where
+module _ {D : Type 0} {g : Ghosts D} {old : Option Stored} {was : List TreePlace} {lives : List Lone} {d : Directory} {had : Written} {n : Moment} {every known : List Table} {next : ℕ} {first : Books} {start : D} {i : ℕ} {t : Table} {books : Books} {places : List TreePlace} {more : List LeafPart} {taken : List Addr} {mid : D} (on : IsAtTable g old was lives d had n every known next first start i t books places more taken mid) where
   -- what the live tree had at first is as it was
   live_there : (link : Link) → HasLive first.cells link.addr.offset link.addr.size → SameThere (g.seen start) (g.seen mid) link
   live_there link live = live_same (g.seen start) (g.seen mid) first on.begun.half.runs.units on.begun.half.runs.within on.going.keeps link live

@@ -10,14 +10,13 @@ use Rattle.kv_model.specs.History.{Table}
 use Rattle.stored.specs.Stored.{Stored}
 use Rattle.stored.specs.TableTree.{TableTree}
 use Rattle.tree_dir.specs.Leaves.{Directory, leaves_of}
-use Rattle.engine_world.specs.Worlds.{World}
 use Rattle.recover_open.specs.Bare.{tree_rows}
 use Rattle.tree_open.specs.declared.place.TreePlace.{TreePlace}
 use Rattle.tree_write.specs.Captures.{places_of}
 use Rattle.tree_write.specs.Sizes.{PlacesAll}
-use Rattle.ckpt_content.specs.Checkpoints.{AreRowsOf}
 use Rattle.ckpt_step.specs.Goings.{Going, OneMore}
 use Rattle.ckpt_step.specs.Sizes.{HasRowsOf, LacksTables, PlacesTables, TableWrites}
+use Rattle.ckpt_step.specs.Moments.{Moment, TreesServe}
 use Rattle.ckpt_step.specs.Parts.{links_over}
 use Rattle.ckpt_step.specs.Rooms.{Written}
 use Rattle.ckpt_step.specs.Trees.{HasTreeAt, table_root}
@@ -31,8 +30,8 @@ use Rattle.ckpt_step.proofs.GoingHalves.{from_more, half_more}
 use Rattle.ckpt_step.proofs.GoingByLeaves.{leaves_more}
 use Rattle.ckpt_step.proofs.GoingLinks.{over_back}
 
-module _ {D : Type 0} {g : Ghosts D} {old : Option Stored} {was : List TreePlace} {lives : List Lone} {d : Directory} {had : Written} {w : World} {known : List Table} {next : ℕ} {first : Books} {start : D} {i : ℕ} {t : Table} {books : Books} {places : List TreePlace} {more : List LeafPart} {taken : List Addr} {mid : D} (on : IsAtTable g old was lives d had w known next first start i t books places more taken mid)
-    {books' : Books} {places' : List TreePlace} {more' : List LeafPart} {taken' : List Addr} {end : D} (one : OneMore g old first was lives d.leaves had w t i books books' places places' more more' taken taken' mid end) (held : books'.is_held ≡ true) where
+module _ {D : Type 0} {g : Ghosts D} {old : Option Stored} {was : List TreePlace} {lives : List Lone} {d : Directory} {had : Written} {n : Moment} {every known : List Table} {next : ℕ} {first : Books} {start : D} {i : ℕ} {t : Table} {books : Books} {places : List TreePlace} {more : List LeafPart} {taken : List Addr} {mid : D} (on : IsAtTable g old was lives d had n every known next first start i t books places more taken mid)
+    {books' : Books} {places' : List TreePlace} {more' : List LeafPart} {taken' : List Addr} {end : D} (one : OneMore g old first was lives d.leaves had n t i books books' places places' more more' taken taken' mid end) (held : books'.is_held ≡ true) where
   abbrev place : TreePlace
   place = one.place
 
@@ -43,7 +42,7 @@ module _ {D : Type 0} {g : Ghosts D} {old : Option Stored} {was : List TreePlace
   rows_in None p has = absurd has
   rows_in (Some s) p has = (table_root t p.root, tree, has.0, refl, refl)
 
-  writes : TableWrites (g.seen start) (g.capacity start) old d.leaves had w.machine t one.sizes
+  writes : TableWrites (g.seen start) (g.capacity start) old d.leaves had n t one.sizes
   writes = record {
     rows = tree_rows tree;
     are = one.rows;
@@ -66,7 +65,7 @@ module _ {D : Type 0} {g : Ghosts D} {old : Option Stored} {was : List TreePlace
   abbrev all_parts : List LeafPart
   all_parts = more ++ one.own_more
 
-  going_more : Going g old was lives d.leaves had w known first books' (places ++ place ∷ []) all_parts (taken ++ places_of one.blocks) (suc i) start end
+  going_more : Going g old was lives d.leaves had n known first books' (places ++ place ∷ []) all_parts (taken ++ places_of one.blocks) (suc i) start end
   going_more = record {
     trees = on.going.trees ++ tree ∷ [];
     many = omega (arith, length-append places (place ∷ []), on.going.many);
@@ -74,19 +73,19 @@ module _ {D : Type 0} {g : Ghosts D} {old : Option Stored} {was : List TreePlace
     from = from_more on one held;
     left = joined g start mid end _ _ on.going.left one.captures.left (old_mid on);
     images = λ c left. old_mid on c (one.captures.images c left);
-    rows = λ rest are. subst (λ (l : List TableTree). AreRowsOf w.machine known l) (sym (append_assoc on.going.trees (tree ∷ []) rest)) (on.going.rows (tree ∷ rest) (subst (λ (l : List Table). AreRowsOf w.machine l (tree ∷ rest)) (sym (drop_at known i t on.at)) (one.rows, are)));
-    placed = λ last later. on.going.placed last (subst (λ (l : List Table). PlacesTables (g.seen start) (g.capacity start) old d.leaves had w.machine books.space l last) (sym (drop_at known i t on.at)) (one.sizes, books'.space, writes, placed_all, later));
-    lacks = λ later. on.going.lacks (subst (λ (l : List Table). LacksTables (g.seen start) (g.capacity start) old d.leaves had w.machine books.space l) (sym (drop_at known i t on.at)) (inr (one.sizes, writes, inr (books'.space, placed_all, later))));
+    rows = λ rest are. subst (λ (l : List TableTree). TreesServe n known l) (sym (append_assoc on.going.trees (tree ∷ []) rest)) (on.going.rows (tree ∷ rest) (subst (λ (l : List Table). TreesServe n l (tree ∷ rest)) (sym (drop_at known i t on.at)) (one.rows, are)));
+    placed = λ last later. on.going.placed last (subst (λ (l : List Table). PlacesTables (g.seen start) (g.capacity start) old d.leaves had n books.space l last) (sym (drop_at known i t on.at)) (one.sizes, books'.space, writes, placed_all, later));
+    lacks = λ later. on.going.lacks (subst (λ (l : List Table). LacksTables (g.seen start) (g.capacity start) old d.leaves had n books.space l) (sym (drop_at known i t on.at)) (inr (one.sizes, writes, inr (books'.space, placed_all, later))));
     by_leaves = leaves_more on one;
-    of_first = of_more d on.begun.dir known next on.begun.ascend had i t on.at more one.own_more on.going.of_first one.of_table;
+    of_first = of_more d on.begun.dir every next on.begun.ascend known on.front had i t on.at more one.own_more on.going.of_first one.of_table;
     keeps = keeps_trans (Has first.cells) (g.seen start) (g.seen mid) (g.seen end) on.going.keeps (keeps_fewer (Has books.cells) (Has first.cells) (g.seen mid) (g.seen end) on.going.used one.captures.keeps);
-    used = λ n k has. one.captures.used n k (on.going.used n k has);
-    live = λ n k has. one.captures.live n k (on.going.live n k has);
+    used = λ a k has. one.captures.used a k (on.going.used a k has);
+    live = λ a k has. one.captures.live a k (on.going.live a k has);
   }
 
-  pub one_more : (n : ℕ) → n ≡ suc i → Going g old was lives d.leaves had w known first books' places' more' taken' n start end
-  one_more n is =
-      subst (λ (k : ℕ). Going g old was lives d.leaves had w known first books' places' more' taken' k start end) (sym is)
-      (subst (λ (l : List TreePlace). Going g old was lives d.leaves had w known first books' l more' taken' (suc i) start end) (sym one.places_are)
-      (subst (λ (l : List LeafPart). Going g old was lives d.leaves had w known first books' (places ++ place ∷ []) l taken' (suc i) start end) (sym one.more_are)
-      (subst (λ (l : List Addr). Going g old was lives d.leaves had w known first books' (places ++ place ∷ []) all_parts l (suc i) start end) (sym one.captured_are) going_more)))
+  pub one_more : (count : ℕ) → count ≡ suc i → Going g old was lives d.leaves had n known first books' places' more' taken' count start end
+  one_more count is =
+      subst (λ (k : ℕ). Going g old was lives d.leaves had n known first books' places' more' taken' k start end) (sym is)
+      (subst (λ (l : List TreePlace). Going g old was lives d.leaves had n known first books' l more' taken' (suc i) start end) (sym one.places_are)
+      (subst (λ (l : List LeafPart). Going g old was lives d.leaves had n known first books' (places ++ place ∷ []) l taken' (suc i) start end) (sym one.more_are)
+      (subst (λ (l : List Addr). Going g old was lives d.leaves had n known first books' (places ++ place ∷ []) all_parts l (suc i) start end) (sym one.captured_are) going_more)))

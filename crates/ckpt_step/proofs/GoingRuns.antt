@@ -10,11 +10,11 @@ use Rattle.kv_model.specs.History.{Table}
 use Rattle.stored.specs.Blocks.{Block}
 use Rattle.stored.specs.Stored.{Stored}
 use Rattle.tree_dir.specs.Leaves.{Directory}
-use Rattle.engine_world.specs.Worlds.{World}
 use Rattle.tree_open.specs.declared.place.TreePlace.{TreePlace}
 use Rattle.tree_write.specs.Captures.{Captures, IsNewOrLive, IsPlaced, places_of, with_addr, with_addrs}
 use Rattle.ckpt_step.specs.Grounds.{start_cell}
 use Rattle.ckpt_step.specs.Halves.{AreOwn, IsNewBlock, IsOldBlock, Runs}
+use Rattle.ckpt_step.specs.Moments.{Moment}
 use Rattle.ckpt_step.specs.Rooms.{Written}
 use Rattle.ckpt_step.specs.declared.parts.LeafPart.{LeafPart}
 use Rattle.ckpt_step.specs.declared.lives.Lone.{Lone}
@@ -25,7 +25,7 @@ use Rattle.ckpt_step.proofs.Goings.{IsAtTable}
 use Rattle.ckpt_step.proofs.HalfCells.{live_cell, none_before}
 
 -- blocks that are captured more
-module _ {D : Type 0} {g : Ghosts D} {old : Option Stored} {was : List TreePlace} {lives : List Lone} {d : Directory} {had : Written} {w : World} {known : List Table} {next : ℕ} {first : Books} {start : D} {i : ℕ} {t : Table} {books : Books} {places : List TreePlace} {more : List LeafPart} {taken : List Addr} {mid : D} (on : IsAtTable g old was lives d had w known next first start i t books places more taken mid)
+module _ {D : Type 0} {g : Ghosts D} {old : Option Stored} {was : List TreePlace} {lives : List Lone} {d : Directory} {had : Written} {n : Moment} {every known : List Table} {next : ℕ} {first : Books} {start : D} {i : ℕ} {t : Table} {books : Books} {places : List TreePlace} {more : List LeafPart} {taken : List Addr} {mid : D} (on : IsAtTable g old was lives d had n every known next first start i t books places more taken mid)
     (blocks : List Block) (sizes : List ℕ) (books' : Books) (end : D) (caught : Captures g old first blocks sizes books books' mid end) where
   long_end : 8192 ≤ length (g.seen end)
   long_end = omega (arith, on.going.half.runs.long, caught.keeps.no_shorter)

@@ -1,8 +1,7 @@
 -- Trees that are captured one after the other, table by table.
-use Rattle.std.specs.Prelude.{ℕ, List, Option, Some, [], length, refl, slice_get, take, ◌≡◌, ◌≤◌}
+use Rattle.std.specs.Prelude.{ℕ, List, Option, Some, [], refl, slice_get, ◌≡◌}
 use Rattle.std.specs.List.{Contains}
 use Rattle.std.proofs.Common.{inl, inr, subst, sym}
-use Rattle.std.proofs.lemmas.List.{append-nil}
 use Rattle.disk_model.specs.declared.disk.Disk.{Ghosts}
 use Rattle.disk_model.proofs.Crash.{keeps_refl, started}
 use Rattle.block_mgr.specs.Blocks.{Books, Has, HasLive}
@@ -11,20 +10,17 @@ use Rattle.kv_model.specs.Holds.{Member}
 use Rattle.kv_model.specs.History.{Table}
 use Rattle.catalog.specs.Known.{NumbersAscend}
 use Rattle.stored.specs.Stored.{Stored}
-use Rattle.stored.specs.TableTree.{TableTree}
 use Rattle.tree_dir.specs.declared.leaf.Leaf.{Leaf}
 use Rattle.tree_dir.specs.Leaves.{Directory, IsDirectory, leaves_of}
-use Rattle.engine_world.specs.Worlds.{World}
 use Rattle.checkpoint_core.specs.Finishes.{IsOld}
 use Rattle.tree_open.specs.declared.place.TreePlace.{TreePlace}
-use Rattle.ckpt_content.specs.Checkpoints.{AreRowsOf}
 use Rattle.ckpt_step.specs.Goings.{Going, HasPartsAt, IsOfTable, MayGo}
 use Rattle.ckpt_step.specs.Grounds.{AreRoots, AreSince, AreWritten}
 use Rattle.ckpt_step.specs.Lives.{live_addrs}
 use Rattle.ckpt_step.specs.Trees.{leaves_at}
 use Rattle.tree_write.specs.Writes.{LeadApart}
-use Rattle.ckpt_step.specs.Halves.{AllWritten, Half, IsOldBlock}
-use Rattle.ckpt_step.specs.Sizes.{PlacesTables}
+use Rattle.ckpt_step.specs.Halves.{Half, IsOldBlock}
+use Rattle.ckpt_step.specs.Moments.{Moment}
 use Rattle.ckpt_step.specs.Rooms.{Written}
 use Rattle.ckpt_step.specs.declared.parts.LeafPart.{LeafPart}
 use Rattle.ckpt_step.specs.declared.lives.Lone.{Lone}
@@ -32,29 +28,28 @@ use Rattle.ckpt_step.proofs.Lones.{lone_old, of_live}
 use Rattle.ckpt_step.proofs.Members.{none_some}
 use Rattle.ckpt_step.proofs.OldTrees.{are_live_leaves, begins_old, leaf_listed_at, leaves_apart, live_of_old}
 use Rattle.ckpt_step.proofs.TableLeaves.{contains_of, in_table}
-use Rattle.ckpt_step.proofs.TableParts.{has_parts}
-use Rattle.ckpt_step.proofs.NewParts.{of_tables}
-use Rattle.ckpt_step.proofs.PlacedTrees.{drop_none}
+use Rattle.ckpt_step.proofs.TableParts.{AreAmong, has_parts}
 use Rattle.ckpt_step.proofs.HalfCells.{may_of}
 
 -- on this a checkpoint begins to capture trees
-pub record IsBegun {D : Type 0} (g : Ghosts D) (old : Option Stored) (was : List TreePlace) (lives : List Lone) (d : Directory) (had : Written) (known : List Table) (next : ℕ) (first : Books) (start : D) : Type 0 where
+pub record IsBegun {D : Type 0} (g : Ghosts D) (old : Option Stored) (was : List TreePlace) (lives : List Lone) (d : Directory) (had : Written) (every : List Table) (next : ℕ) (first : Books) (start : D) : Type 0 where
   pub dir : IsDirectory d
   pub half : Half (g.seen start) (g.may_leave start) first old lives [] [] []
-  pub roots : AreRoots known lives d.leaves had was old
-  pub made : AreWritten known lives d had was
+  pub roots : AreRoots every lives d.leaves had was old
+  pub made : AreWritten every lives d had was
   pub since : AreSince old lives d had
-  pub ascend : NumbersAscend 1 known next
+  pub ascend : NumbersAscend 1 every next
 
--- the trees of the first tables are captured, and this one is next
-pub record IsAtTable {D : Type 0} (g : Ghosts D) (old : Option Stored) (was : List TreePlace) (lives : List Lone) (d : Directory) (had : Written) (w : World) (known : List Table) (next : ℕ) (first : Books) (start : D) (i : ℕ) (t : Table) (books : Books) (places : List TreePlace) (more : List LeafPart) (taken : List Addr) (mid : D) : Type 0 where
-  pub begun : IsBegun g old was lives d had known next first start
-  pub going : Going g old was lives d.leaves had w known first books places more taken i start mid
+-- The trees of the first of these tables are captured, and this one is next; every: those of the engine.
+pub record IsAtTable {D : Type 0} (g : Ghosts D) (old : Option Stored) (was : List TreePlace) (lives : List Lone) (d : Directory) (had : Written) (n : Moment) (every known : List Table) (next : ℕ) (first : Books) (start : D) (i : ℕ) (t : Table) (books : Books) (places : List TreePlace) (more : List LeafPart) (taken : List Addr) (mid : D) : Type 0 where
+  pub begun : IsBegun g old was lives d had every next first start
+  pub front : AreAmong known every
+  pub going : Going g old was lives d.leaves had n known first books places more taken i start mid
   pub at : slice_get known i ≡ Some t
   pub room : g.capacity mid ≡ g.capacity start
 
-module _ {D : Type 0} {g : Ghosts D} {old : Option Stored} {was : List TreePlace} {lives : List Lone} {d : Directory} {had : Written} {known : List Table} {next : ℕ} {first : Books} {start : D} (w : World) (on : IsBegun g old was lives d had known next first start) where
-  pub begun : ((c : List ℕ) → g.left_since start (g.moment start) c → g.may_leave start c) → Going g old was lives d.leaves had w known first first [] [] [] 0 start start
+module _ {D : Type 0} {g : Ghosts D} {old : Option Stored} {was : List TreePlace} {lives : List Lone} {d : Directory} {had : Written} {every : List Table} {next : ℕ} {first : Books} {start : D} (n : Moment) (known : List Table) (on : IsBegun g old was lives d had every next first start) where
+  pub begun : ((c : List ℕ) → g.left_since start (g.moment start) c → g.may_leave start c) → Going g old was lives d.leaves had n known first first [] [] [] 0 start start
   begun only = record {
     trees = [];
     many = refl;
@@ -72,25 +67,11 @@ module _ {D : Type 0} {g : Ghosts D} {old : Option Stored} {was : List TreePlace
     };
     of_first = tt;
     keeps = keeps_refl (Has first.cells) (g.seen start);
-    used = λ at n has. has;
-    live = λ at n has. has;
+    used = λ at k has. has;
+    live = λ at k has. has;
   }
 
-  -- all are captured
-  pub ended : (count : ℕ) (books : Books) (places : List TreePlace) (more : List LeafPart) (taken : List Addr) (end : D) → Going g old was lives d.leaves had w known first books places more taken count start end → length known ≤ count → AllWritten g old lives w known d.leaves had first books places more taken start end
-  ended count books places more taken end going all = record {
-    trees = going.trees;
-    half = going.half;
-    rows = subst (λ (l : List TableTree). AreRowsOf w.machine known l) (append-nil going.trees) (going.rows [] (subst (λ (l : List Table). AreRowsOf w.machine l []) (sym (drop_none known count all)) tt));
-    left = going.left;
-    keeps = going.keeps;
-    used = going.used;
-    placed = going.placed books.space (subst (λ (l : List Table). PlacesTables (g.seen start) (g.capacity start) old d.leaves had w.machine books.space l books.space) (sym (drop_none known count all)) refl);
-    by_leaves = going.by_leaves;
-    of_leaves = of_tables (take count known) d.leaves more going.of_first;
-  }
-
-module _ {D : Type 0} {g : Ghosts D} {old : Option Stored} {was : List TreePlace} {lives : List Lone} {d : Directory} {had : Written} {w : World} {known : List Table} {next : ℕ} {first : Books} {start : D} {i : ℕ} {t : Table} {books : Books} {places : List TreePlace} {more : List LeafPart} {taken : List Addr} {mid : D} (on : IsAtTable g old was lives d had w known next first start i t books places more taken mid) where
+module _ {D : Type 0} {g : Ghosts D} {old : Option Stored} {was : List TreePlace} {lives : List Lone} {d : Directory} {had : Written} {n : Moment} {every known : List Table} {next : ℕ} {first : Books} {start : D} {i : ℕ} {t : Table} {books : Books} {places : List TreePlace} {more : List LeafPart} {taken : List Addr} {mid : D} (on : IsAtTable g old was lives d had n every known next first start i t books places more taken mid) where
   pub old_mid : (c : List ℕ) → IsOld (g.may_leave mid) old c → IsOld (g.may_leave start) old c
   old_mid c (inl left) = on.going.images c left
   old_mid c (inr has) = inr has
@@ -100,7 +81,7 @@ module _ {D : Type 0} {g : Ghosts D} {old : Option Stored} {was : List TreePlace
   since_addrs = live_addrs lives (leaves_of t.number d.leaves)
 
   tree_old : (p : TreePlace) (a : Addr) → slice_get was i ≡ Some p → Member a p.addrs.items → IsOldBlock old lives a
-  tree_old p a is there = begins_old (g.seen start) (g.may_leave start) first known next on.begun.ascend lives d.leaves had was old on.begun.half.runs.stands on.begun.roots on.begun.since.lone on.begun.half.runs.cells on.begun.half.runs.units i p a is there
+  tree_old p a is there = begins_old (g.seen start) (g.may_leave start) first every next on.begun.ascend lives d.leaves had was old on.begun.half.runs.stands on.begun.roots on.begun.since.lone on.begun.half.runs.cells on.begun.half.runs.units i p a is there
 
   since_is_old : (a : Addr) → Member a since_addrs → IsOldBlock old lives a
   since_is_old a there =
@@ -121,18 +102,18 @@ module _ {D : Type 0} {g : Ghosts D} {old : Option Stored} {was : List TreePlace
     over = record {
       may = may_of (g.seen mid) (g.may_leave mid) books old lives taken on.going.half.runs;
       live = on.going.live;
-      leaves = are_live_leaves (g.seen start) (g.may_leave start) first known next on.begun.ascend lives d.leaves had was old on.begun.half.runs.stands on.begun.roots on.begun.since.lone on.begun.half.runs.cells on.begun.half.runs.units i;
+      leaves = are_live_leaves (g.seen start) (g.may_leave start) first every next on.begun.ascend lives d.leaves had was old on.begun.half.runs.stands on.begun.roots on.begun.since.lone on.begun.half.runs.cells on.begun.half.runs.units i;
     };
     apart = apart_at;
     blocks = λ p a is there. live_before a (inl (p, is, there));
     written = λ a there. live_before a (inr there);
-    listed = leaf_listed_at (g.seen start) (g.may_leave start) first known next on.begun.ascend lives d.leaves had was old on.begun.half.runs.stands on.begun.roots on.begun.since.lone on.begun.half.runs.cells on.begun.half.runs.units i;
+    listed = leaf_listed_at (g.seen start) (g.may_leave start) first every next on.begun.ascend lives d.leaves had was old on.begun.half.runs.stands on.begun.roots on.begun.since.lone on.begun.half.runs.cells on.begun.half.runs.units i;
   } where
     apart_at : LeadApart (leaves_at was i)
-    apart_at = leaves_apart (g.seen start) (g.may_leave start) first known next on.begun.ascend lives d.leaves had was old on.begun.half.runs.stands on.begun.roots on.begun.since.lone on.begun.half.runs.cells on.begun.half.runs.units i
+    apart_at = leaves_apart (g.seen start) (g.may_leave start) first every next on.begun.ascend lives d.leaves had was old on.begun.half.runs.stands on.begun.roots on.begun.since.lone on.begun.half.runs.cells on.begun.half.runs.units i
 
   pub has : HasPartsAt old lives d.leaves had was t i
-  has = has_parts old known lives d had was t i on.begun.roots on.begun.made on.begun.since on.at (may_go.apart)
+  has = has_parts old every lives d had was t i on.begun.roots on.begun.made on.begun.since (on.front i t on.at) (may_go.apart)
 
   pub own_leaf : (l : Leaf) → Member l (leaves_of t.number d.leaves) → Contains d.leaves l × (l.table ≡ t.number)
   own_leaf l among = let one = in_table t.number d.leaves l among in (contains_of d.leaves l one.0, one.1)

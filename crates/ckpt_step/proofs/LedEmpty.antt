@@ -9,7 +9,9 @@ use Rattle.call_turns.proofs.Walks.{named-is}
 use Rattle.device_layout.specs.declared.link.Link.{Link}
 use Rattle.disk_model.specs.declared.disk.Disk.{Ghosts}
 use Rattle.engine.proofs.LeavesCome.{named-there}
+use Rattle.engine.specs.declared.running_checkpoint.RunningCheckpoint.{RunningCheckpoint}
 use Rattle.engine.specs.Evictions.{HasBeenEvicted}
+use Rattle.engine.specs.Running.{RunsAs}
 use Rattle.engine_world.proofs.Homes.{same-id}
 use Rattle.engine_world.specs.Evicting.{IsEvictedTo, evicted, held_of, led_out, with_rows}
 use Rattle.engine_world.specs.GoingOut.{with_again}
@@ -62,7 +64,7 @@ none_moves past held moved made = no_member moved (λ v there. subst (λ (vs : L
 
 -- ---- the leaf
 
-module _ {D : Type 0} (g : Ghosts D) (old : Option Stored) (w : World) (e e' : Engine) (stand stand' : Ground) (id : ℕ) (disk : D) (stands : Stands e w) (idle : w.machine.checkpoint ≡ None) (n : NotWritten g old w stand stand e e id disk disk) (moved : List Moved) (cut : AreCut e id [] moved) (x : HasLeftEmpty e e' stand stand' id) where
+module _ {D : Type 0} (g : Ghosts D) (old : Option Stored) (w : World) (e e' : Engine) (stand stand' : Ground) (id : ℕ) (disk : D) (stands : Stands e w) (running : Option RunningCheckpoint) (runs : RunsAs w.machine running) (n : NotWritten g old w stand stand e e id disk disk) (moved : List Moved) (cut : AreCut e running id [] moved) (x : HasLeftEmpty e e' stand stand' id) where
   abbrev l : Leaf
   l = cut.may.leaf
 
@@ -91,7 +93,7 @@ module _ {D : Type 0} (g : Ghosts D) (old : Option Stored) (w : World) (e e' : E
   -- ---- the world
 
   was_to : IsEvictedTo w.machine e.hub.dir.leaves l cut.may.frame [] (λ key. versions_in key moved)
-  was_to = subst (λ (rows : List Row). IsEvictedTo w.machine e.hub.dir.leaves l cut.may.frame rows (λ key. versions_in key moved)) cut.are (cut.evicted w stands idle)
+  was_to = subst (λ (rows : List Row). IsEvictedTo w.machine e.hub.dir.leaves l cut.may.frame rows (λ key. versions_in key moved)) cut.are (cut.evicted w stands runs)
 
   to : IsEvictedTo w.machine e.hub.dir.leaves l cut.may.frame [] (λ key. [])
   to = record {
@@ -150,7 +152,7 @@ module _ {D : Type 0} (g : Ghosts D) (old : Option Stored) (w : World) (e e' : E
   pub left_empty : LeftEmpty g old w stand stand' e e' id disk disk
   unfolding out
   left_empty = record {
-    none = record { moved = moved; cut = cut };
+    none = record { running = running; runs = runs; moved = moved; cut = cut };
     link = x.link;
     out = out;
     led = led;

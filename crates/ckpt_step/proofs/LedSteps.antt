@@ -12,7 +12,9 @@ use Rattle.call_turns.proofs.Walks.{named-is}
 use Rattle.device_layout.specs.declared.addr.Addr.{Addr}
 use Rattle.device_layout.specs.declared.link.Link.{Link}
 use Rattle.engine.proofs.LeavesCome.{named-there}
+use Rattle.engine.specs.declared.running_checkpoint.RunningCheckpoint.{RunningCheckpoint}
 use Rattle.engine.specs.Evictions.{HasBeenEvicted, MayBeEvicted}
+use Rattle.engine.specs.Running.{RunsAs}
 use Rattle.engine_world.specs.Evicting.{IsEvictedTo, evicted, led_out, with_rows}
 use Rattle.engine_world.specs.GoingOut.{with_again}
 use Rattle.engine_world.specs.Stands.{Engine, Stands}
@@ -104,7 +106,7 @@ again_follows old hub g w e frame follows = record { respects = follows.respects
 
 module _ {D : Type 0} (g : Ghosts D) (before start : D) (looked : Looked g before start) (only : (c : List ℕ) → g.left_since before (g.moment before) c → g.may_leave before c) (old : Option Stored) (w : World) (stand : Ground) (e : Engine) (id : ℕ)
     (on : StandsOn (g.seen before) (g.may_leave before) e.hub stand old) (follows : Follows old e.hub stand w) (device : AreLivesOn (g.seen before) e.hub stand w)
-    (images : List Image) (moved : List Moved) (cut : AreCut e id images moved) (one : length images ≡ 1) (low : List ℕ) (begins : IsLowOf e id images low) (stands : Stands e w) (idle : w.machine.checkpoint ≡ None) (after : D) (books : Books) where
+    (running : Option RunningCheckpoint) (images : List Image) (moved : List Moved) (cut : AreCut e running id images moved) (one : length images ≡ 1) (low : List ℕ) (begins : IsLowOf e id images low) (stands : Stands e w) (runs : RunsAs w.machine running) (after : D) (books : Books) where
   abbrev pub own : LeavesOf images cut.rows
   own = leaves_of images cut.rows cut.are
 
@@ -112,7 +114,7 @@ module _ {D : Type 0} (g : Ghosts D) (before start : D) (looked : Looked g befor
   l = cut.may.leaf
 
   is_evicted : IsEvictedTo w.machine e.hub.dir.leaves l cut.may.frame cut.rows (λ key. versions_in key moved)
-  is_evicted = cut.evicted w stands idle
+  is_evicted = cut.evicted w stands runs
 
   rows_in : AreRowsIn w.machine e.hub.dir.leaves l cut.rows
   rows_in = evicted_rows e w stands id cut.may cut.rows cut.fit (λ key. versions_in key moved) is_evicted

@@ -93,7 +93,7 @@ either_way (w ∷ was) (Some p ∷ told) a there = elim (in_either w.addrs.items
   | inr later ↦ elim (either_way was told a later) [ inl kept ↦ inl kept | inr left ↦ inr (in_back w.addrs.items (addrs_of (left_by was told)) a left) ]
 ]
 
-left_in : (was : List TreePlace) (told : List (Option TreePlace)) (a : Addr) → Member a (addrs_of (left_by was told)) → Member a (addrs_of was)
+pub left_in : (was : List TreePlace) (told : List (Option TreePlace)) (a : Addr) → Member a (addrs_of (left_by was told)) → Member a (addrs_of was)
 left_in [] told a there = there
 left_in (w ∷ was) [] a there = elim (in_either w.addrs.items (addrs_of (left_by was [])) a there) [ inl here ↦ in_front w.addrs.items (addrs_of was) a here | inr later ↦ in_back w.addrs.items (addrs_of was) a (left_in was [] a later) ]
 left_in (w ∷ was) (None ∷ told) a there = in_back w.addrs.items (addrs_of was) a (left_in was told a there)

@@ -8,6 +8,10 @@ pub mod Told
 mod Places
 pub mod ByPlace
 pub mod ByName
+mod FirstTables
+pub mod CapturesBefore
+mod WholeCells
+pub mod ServingCells
 pub mod RecordsFit
 pub mod Frees
 pub mod Cells
@@ -28,6 +32,8 @@ pub mod Past
 pub mod LookedAt
 pub mod Starting
 pub mod Concluding
+mod WholeTaken
+mod Startings
 pub mod OrderedByName
 mod PlacedTrees
 mod HalfCells
@@ -39,6 +45,8 @@ mod GoingFails
 mod GoingHalves
 mod GoingByLeaves
 mod GoingMore
+mod GoingEnds
+pub mod Then
 pub mod Floors
 mod CleanTrees
 mod Below
@@ -61,6 +69,7 @@ pub mod LeafSteps
 mod LettingGo
 mod LoadedLeaves
 pub mod RowNewest
+mod LeafCells
 mod TakenLeaves
 mod DraftingMore
 mod LeafWrites
@@ -124,3 +133,12 @@ mod LedEnds
 mod EmptyLeaves
 mod LedEmpty
 mod PlacedTables
+mod FirstOnes
+mod Turned
+mod OtherLives
+mod OthersStay
+mod SeenBefore
+mod MomentsNow
+mod GatheredHistory
+mod RunningTables
+mod OthersFollow

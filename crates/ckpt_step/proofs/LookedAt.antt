@@ -12,11 +12,10 @@ use Rattle.stored.specs.Stored.{Stored}
 use Rattle.checkpoint_core.specs.Stands.{HasStill}
 use Rattle.checkpoint_core.specs.Finishes.{IsOld, IsEither}
 use Rattle.call_steps.specs.declared.hub.Hub.{Hub}
-use Rattle.engine_world.specs.Worlds.{World}
-use Rattle.kv_model.specs.Machine.{Machine}
 use Rattle.ckpt_step.specs.declared.ground.Ground.{Ground}
 use Rattle.ckpt_step.specs.Floors.{AreLivesOn, Follows}
 use Rattle.ckpt_step.specs.Grounds.{StandsOn}
+use Rattle.ckpt_step.specs.Moments.{Moment}
 use Rattle.ckpt_step.specs.Rooms.{known_in}
 use Rattle.ckpt_step.specs.Runs.{LeavesOne, NewStands, OldStands}
 use Rattle.ckpt_step.specs.Sizes.{HasRoomFor, IsFullFor, KeepsLeaves}
@@ -61,25 +60,25 @@ module _ {D : Type 0} (g : Ghosts D) (before mid : D) (looked : Looked g before 
   turns : (after : D) (new : Stored) → LeavesOnly g mid after (IsEither (g.may_leave mid) old new) → LeavesOnly g before after (IsEither (g.may_leave before) old new)
   turns after new more = joined g before mid after _ _ (widened g before mid _ _ only_old (λ c is. inl is)) more (either_before new)
 
-  leaves_one : (m : Machine) (after : D) → LeavesOne g old m mid after → LeavesOne g old m before after
-  leaves_one m after (inl kept) = inl (keeps after kept)
-  leaves_one m after (inr (new, is, more)) = inr (new, is, turns after new more)
+  leaves_one : (n : Moment) (after : D) → LeavesOne g old n mid after → LeavesOne g old n before after
+  leaves_one n after (inl kept) = inl (keeps after kept)
+  leaves_one n after (inr (new, is, more)) = inr (new, is, turns after new more)
 
-  module _ (w : World) (hub : Hub) (stand : Ground) where
+  module _ (n : Moment) (hub : Hub) (stand : Ground) where
     -- nothing was written
-    pub not_begun : StandsOn (g.seen before) (g.may_leave before) hub stand old → Follows old hub stand w → AreLivesOn (g.seen before) hub stand w → OldStands g old w hub stand stand before mid Read
+    pub not_begun : StandsOn (g.seen before) (g.may_leave before) hub stand old → Follows old hub stand n.world → AreLivesOn (g.seen before) hub stand n.world → OldStands g old n hub stand stand before mid Read
     not_begun on follows device = record {
       left = inl only_old;
       kept = λ safe. only_old;
       on = λ safe. stands_looked (g.seen before) (g.seen mid) (g.may_leave before) (g.may_leave mid) hub stand old looked.content looked.images on;
       follows = follows;
-      since = λ safe. subst (λ (bytes : List ℕ). AreLivesOn bytes hub stand w) (sym looked.content) device;
+      since = λ safe. subst (λ (bytes : List ℕ). AreLivesOn bytes hub stand n.world) (sym looked.content) device;
       full = λ is. absurd (cc);
     }
 
     module _ (stand' : Ground) (after : D) where
       -- it was written then
-      pub new_looked : NewStands g old w hub stand stand' mid after → NewStands g old w hub stand stand' before after
+      pub new_looked : NewStands g old n hub stand stand' mid after → NewStands g old n hub stand stand' before after
       new_looked wrote = record {
         new = wrote.new;
         is = wrote.is;
@@ -87,22 +86,23 @@ module _ {D : Type 0} (g : Ghosts D) (before mid : D) (looked : Looked g before 
         each = wrote.each;
         on = wrote.on;
         follows = wrote.follows;
-        none = wrote.none;
+        since = wrote.since;
+        others = wrote.others;
         had_room =
-            subst (λ (n : ℕ). HasRoomFor (g.seen before) n stand.lives hub.dir.leaves (known_in stand.parts) w.machine) looked.capacity
-            (subst (λ (l : List ℕ). HasRoomFor l (g.capacity mid) stand.lives hub.dir.leaves (known_in stand.parts) w.machine) looked.content wrote.had_room);
+            subst (λ (k : ℕ). HasRoomFor (g.seen before) k stand.lives hub.dir.leaves (known_in stand.parts) n) looked.capacity
+            (subst (λ (l : List ℕ). HasRoomFor l (g.capacity mid) stand.lives hub.dir.leaves (known_in stand.parts) n) looked.content wrote.had_room);
         kept = subst (λ (l : List ℕ). KeepsLeaves l hub.tables.tables hub.dir.leaves (known_in stand.parts) wrote.new stand'.trees.items (known_in stand'.parts)) looked.content wrote.kept;
       }
 
       -- it was not
-      pub old_looked : (e : StoreError) → OldStands g old w hub stand stand' mid after e → OldStands g old w hub stand stand' before after e
+      pub old_looked : (e : StoreError) → OldStands g old n hub stand stand' mid after e → OldStands g old n hub stand stand' before after e
       old_looked e wrote = record {
-        left = leaves_one w.machine after wrote.left;
+        left = leaves_one n after wrote.left;
         kept = λ safe. keeps after (wrote.kept safe);
         on = wrote.on;
         follows = wrote.follows;
         since = wrote.since;
         full = λ is.
-            subst (λ (n : ℕ). IsFullFor (g.seen before) n stand.lives hub.dir.leaves (known_in stand.parts) w.machine) looked.capacity
-            (subst (λ (l : List ℕ). IsFullFor l (g.capacity mid) stand.lives hub.dir.leaves (known_in stand.parts) w.machine) looked.content (wrote.full is));
+            subst (λ (k : ℕ). IsFullFor (g.seen before) k stand.lives hub.dir.leaves (known_in stand.parts) n) looked.capacity
+            (subst (λ (l : List ℕ). IsFullFor l (g.capacity mid) stand.lives hub.dir.leaves (known_in stand.parts) n) looked.content (wrote.full is));
       }

@@ -9,12 +9,14 @@ use Rattle.block_mgr.specs.Blocks.{Books, Has}
 use Rattle.device_layout.specs.declared.addr.Addr.{Addr}
 use Rattle.kv_model.specs.History.{Table}
 use Rattle.kv_model.specs.Holds.{Member}
-use Rattle.kv_model.specs.Machine.{Machine}
+use Rattle.kv_model.specs.Machine.{Checkpoint, Machine}
 use Rattle.catalog.specs.Known.{NumbersAscend, by_name}
 use Rattle.catalog.proofs.InOrder.{order_keeps}
 use Rattle.stored.specs.Blocks.{Block, IsAddressed, IsAt, Apart}
 use Rattle.stored.specs.Tree.{join, tree_blocks}
-use Rattle.stored.specs.HistoryTree.{HistoryTree}
+use Rattle.row_page.specs.Rows.{Row}
+use Rattle.reconcile.specs.Shows.{shown_at}
+use Rattle.stored.specs.HistoryTree.{HistoryRecord, HistoryTree}
 use Rattle.stored.specs.Records.{TableRoot, Root, Record, IsRecord, record_image}
 use Rattle.stored.specs.Stored.{AreTrees, tables_blocks, tables_of}
 use Rattle.stored.specs.TableTree.{TableTree, root_entry, table_kind}
@@ -23,10 +25,12 @@ use Rattle.device_leaf.specs.NoHistory.{no_root}
 use Rattle.tree_open.specs.declared.place.TreePlace.{TreePlace}
 use Rattle.tree_open.specs.Trees.{HasTree, IsPlaceOf}
 use Rattle.hist_open.specs.Trees.{HasHistory}
-use Rattle.recover_open.specs.Bare.{tree_rows}
-use Rattle.ckpt_content.specs.Checkpoints.{AreRowsOf, IsCheckpointOf, IsHistoryOf, IsRecordOf, IsRowsOf}
+use Rattle.ckpt_content.specs.Checkpoints.{records_at}
+use Rattle.ckpt_content.specs.Finished.{AreTakenOf, AreTakenRows, IsFinishOf, IsRecordThen, tables_then}
+use Rattle.ckpt_content.specs.Laws.{TakenBeforeServes}
 use Rattle.ckpt_step.specs.Grounds.{HasRoots}
 use Rattle.ckpt_step.specs.Halves.{AreParted, TreesKeep, made_blocks, older_blocks}
+use Rattle.ckpt_step.specs.Moments.{IsHistoryThen, Moment, RowsServe, TreesServe}
 use Rattle.ckpt_step.specs.Rooms.{Written}
 use Rattle.ckpt_step.specs.Sizes.{KeepsLeaves}
 use Rattle.tree_dir.specs.declared.leaf.Leaf.{Leaf}
@@ -97,13 +101,22 @@ module _ (R : Table → Root) (W : Table → TableTree) where
   held_each bytes [] all = tt
   held_each bytes (t ∷ tables) all = (all.0.holds, held_each bytes tables all.1)
 
-  pub rows_each : (m : Machine) (tables : List Table) → AreRowsOf m tables (map W tables) → AllByRecursion (λ (t : Table). IsRowsOf m t (tree_rows (W t))) tables
-  rows_each m [] are = tt
-  rows_each m (t ∷ tables) are = (are.0, rows_each m tables are.1)
+  serve_each : (n : Moment) (tables : List Table) → TreesServe n tables (map W tables) → AllByRecursion (λ (t : Table). RowsServe n t (join (W t).leaves)) tables
+  serve_each n [] are = tt
+  serve_each n (t ∷ tables) are = (are.0, serve_each n tables are.1)
 
-  rows_all : (m : Machine) (tables : List Table) → AllByRecursion (λ (t : Table). IsRowsOf m t (tree_rows (W t))) tables → AreRowsOf m tables (map W tables)
-  rows_all m [] all = tt
-  rows_all m (t ∷ tables) all = (all.0, rows_all m tables all.1)
+  taken_all : (m : Machine) (c : Checkpoint) (records : List HistoryRecord) (tables : List Table) → AllByRecursion (λ (t : Table). AreTakenRows m c records t (join (W t).leaves)) tables → AreTakenOf m c records tables (map W tables)
+  taken_all m c records [] all = tt
+  taken_all m c records (t ∷ tables) all = (all.0, taken_all m c records tables all.1)
+
+-- rows that serve are taken, with the records that are written behind them
+taken_rows : (law : TakenBeforeServes) (n : Moment) (records : List HistoryRecord) (t : Table) (rows : List Row) → IsHistoryThen n records → Member t (tables_then n.world.machine n.checkpoint) → RowsServe n t rows → AreTakenRows n.world.machine n.checkpoint records t rows
+taken_rows law n records t rows older stood serve = record {
+  fit = serve.fit;
+  captured = λ key.
+      let own = serve.serve key in
+      law n.world.machine n.checkpoint t.number key (n.cells t.number key) (shown_at key rows) (records_at t.number key records) (older.taken t stood key) own.there own.top own.below;
+}
 
 map_same : (tables : List Table) → map (λ (t : Table). t) tables ≡ tables
 map_same [] = refl
@@ -152,9 +165,13 @@ module _ (known : List Table) (next : ℕ) (ascend : NumbersAscend 1 known next)
   by_name_each : AllByRecursion (λ (t : Table). HasTree bytes (root_at t) (tree_at t)) (by_name known)
   by_name_each = all_by_name (λ (t : Table). HasTree bytes (root_at t) (tree_at t)) known there_each
 
-  -- the rows of the machine, in the order of the names
-  pub rows_by_name : (m : Machine) → AreRowsOf m known trees → AreRowsOf m (by_name known) (trees_by_name known trees)
-  rows_by_name m are = rows_all root_at tree_at m (by_name known) (all_by_name (λ (t : Table). IsRowsOf m t (tree_rows (tree_at t))) known (rows_each root_at tree_at m known (subst (λ (l : List TableTree). AreRowsOf m known l) (sym trees_are) are)))
+  -- what is taken of the machine, in the order of the names
+  pub taken_by_name : TakenBeforeServes → (n : Moment) (records : List HistoryRecord) → IsHistoryThen n records → ((t : Table) → Member t known → Member t (tables_then n.world.machine n.checkpoint)) → TreesServe n known trees → AreTakenOf n.world.machine n.checkpoint records (by_name known) (trees_by_name known trees)
+  taken_by_name law n records older stood are =
+      let each = serve_each root_at tree_at n known (subst (λ (l : List TableTree). TreesServe n known l) (sym trees_are) are) in
+      taken_all root_at tree_at n.world.machine n.checkpoint records (by_name known) (all_by_name (λ (t : Table). AreTakenRows n.world.machine n.checkpoint records t (join (tree_at t).leaves)) known
+      (all_made (λ (t : Table). AreTakenRows n.world.machine n.checkpoint records t (join (tree_at t).leaves)) known (λ t there.
+      taken_rows law n records t (join (tree_at t).leaves) older (stood t there) (all_of (λ (x : Table). RowsServe n x (join (tree_at x).leaves)) known t each there))))
 
   -- what a table has by number it has by place
   pub root_is : (i : ℕ) (t : Table) (p : TreePlace) → slice_get known i ≡ Some t → slice_get places i ≡ Some p → root_at t ≡ p.root
@@ -198,11 +215,11 @@ module _ (known : List Table) (next : ℕ) (ascend : NumbersAscend 1 known next)
           ])));
     }
 
-    pub made_is : (m : Machine) (number : ℕ) → IsRecordOf m number r → AreRowsOf m known trees → IsHistoryOf m (join history.leaves) → IsCheckpointOf m number (made_of r known trees history a)
-    made_is m number is are its = record {
+    pub made_is : TakenBeforeServes → (n : Moment) (number : ℕ) → ((t : Table) → Member t known → Member t (tables_then n.world.machine n.checkpoint)) → IsRecordThen n.world.machine n.checkpoint number r → TreesServe n known trees → IsHistoryThen n (join history.leaves) → IsFinishOf n.world.machine n.checkpoint number (made_of r known trees history a)
+    made_is law n number stood is are its = record {
       names = is;
-      history = its;
-      rows = subst (λ (l : List Table). AreRowsOf m l (trees_by_name known trees)) (sym (ap tables_of tables ∙ tables_of_roots known (roots_of places))) (rows_by_name m are);
+      rows = subst (λ (l : List Table). AreTakenOf n.world.machine n.checkpoint (join history.leaves) l (trees_by_name known trees)) (sym (ap tables_of tables ∙ tables_of_roots known (roots_of places))) (taken_by_name law n (join history.leaves) its stood are);
+      known = its.known;
     }
 
     -- the tree of a table is that of the checkpoint

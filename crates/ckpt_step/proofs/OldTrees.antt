@@ -174,10 +174,23 @@ module _ (seen : List ℕ) (images : List ℕ → Type 0) (books : Books) (known
   abbrev past : List Addr
   past = history_places (Some s)
 
-  past_old : (a : Addr) → Member a past → IsOldBlock (Some s) lives a
-  past_old a there =
+  past_body : (a : Addr) → Member a past → IsBody (Some s) a
+  past_body a there =
       let b = member_map {A = Block} (λ x. x.place) a (history_blocks s.kept s.history) there in
-      body_old (Some s) lives lone a (subst (λ (x : Addr). IsBody (Some s) x) (sym b.2) (old_body b.0 (in_back blocks (history_blocks s.kept s.history) b.0 b.1)))
+      subst (λ (x : Addr). IsBody (Some s) x) (sym b.2) (old_body b.0 (in_back blocks (history_blocks s.kept s.history) b.0 b.1))
+
+  past_old : (a : Addr) → Member a past → IsOldBlock (Some s) lives a
+  past_old a there = body_old (Some s) lives lone a (past_body a there)
+
+  -- so is each of the trees and of the history
+  pub before_body : (a : Addr) → Member a (addrs_of places ++ past) → IsBody (Some s) a
+  before_body a there = elim (in_either (addrs_of places) past a there) [
+    | inl of_tree ↦
+        let p = member_flat {A = TreePlace} (λ q. q.addrs.items) places a of_tree in
+        let i = member_at p.0 places p.1 in
+        body_addr i.0 p.0 a i.1 p.2
+    | inr older ↦ past_body a older
+  ]
 
   old_addr : (i : ℕ) (p : TreePlace) (a : Addr) → slice_get places i ≡ Some p → Member a p.addrs.items → IsOldBlock (Some s) lives a
   old_addr i p a is there = body_old (Some s) lives lone a (body_addr i p a is there)
@@ -372,6 +385,13 @@ module _ (seen : List ℕ) (images : List ℕ → Type 0) (books : Books) (known
   pub begins_body : (old : Option Stored) → Stands seen images books old → AreRoots known lives leaves written places old → AreLone old lives → ((u : ℕ) → cell_at books.cells u ≡ start_cell old lives u) → AreUnits books.cells books.space → (i : ℕ) (p : TreePlace) (a : Addr) → slice_get places i ≡ Some p → Member a p.addrs.items → IsBody old a
   begins_body None stands none lone cells units i p a is there = absurd (nothing_at none i p is)
   begins_body (Some s) stands roots lone cells units i p a is there = body_addr seen images books known next ascend lives leaves written places s stands roots lone cells units i p a is there
+
+  pub bodies_before : (old : Option Stored) → Stands seen images books old → AreRoots known lives leaves written places old → AreLone old lives → ((u : ℕ) → cell_at books.cells u ≡ start_cell old lives u) → AreUnits books.cells books.space → (a : Addr) → Member a (addrs_of places ++ history_places old) → IsBody old a
+  bodies_before None stands none lone cells units a there = elim (in_either (addrs_of places) [] a there) [
+    | inl of_tree ↦ absurd (subst (λ (l : List TreePlace). Member a (addrs_of l)) none of_tree)
+    | inr older ↦ absurd older
+  ]
+  bodies_before (Some s) stands roots lone cells units a there = before_body seen images books known next ascend lives leaves written places s stands roots lone cells units a there
 
   pub begins_old : (old : Option Stored) → Stands seen images books old → AreRoots known lives leaves written places old → AreLone old lives → ((u : ℕ) → cell_at books.cells u ≡ start_cell old lives u) → AreUnits books.cells books.space → (i : ℕ) (p : TreePlace) (a : Addr) → slice_get places i ≡ Some p → Member a p.addrs.items → IsOldBlock old lives a
   begins_old None stands none lone cells units i p a is there = absurd (nothing_at none i p is)

@@ -23,18 +23,19 @@ use Rattle.tree_write.specs.Captures.{Captures, MayWrite, places_of}
 use Rattle.tree_write.specs.Keeps.{AreLive, KeepsAll, captured_all}
 use Rattle.tree_write.proofs.Joining.{captures_join, captures_none}
 use Rattle.tree_write.proofs.OneBlock.{captures_kept, live_captured}
-use Rattle.ckpt_step.specs.Floors.{IsStill, FollowsFrom}
+use Rattle.ckpt_step.specs.Floors.{FollowsFrom}
 use Rattle.ckpt_step.specs.Goings.{Goes, MayGo, NotOneMore, OneMore}
 use Rattle.ckpt_step.proofs.Members.{all_made}
 use Rattle.std.proofs.lemmas.List.{append-nil}
 use Rattle.stamp.specs.declared.Name.{Name}
 use Rattle.tree_dir.specs.declared.leaf.Leaf.{Leaf}
 use Rattle.tree_dir.specs.Leaves.{leaves_of}
-use Rattle.engine_world.specs.Worlds.{World}
 use Rattle.tree_write.specs.Steps.{links_in}
 use Rattle.ckpt_step.specs.Lives.{live_addrs}
 use Rattle.ckpt_step.specs.Parts.{part_leaves, part_of}
+use Rattle.ckpt_step.specs.Moments.{Moment}
 use Rattle.ckpt_step.specs.Rooms.{Written}
+use Rattle.ckpt_step.specs.Stills.{IsStill}
 use Rattle.ckpt_step.specs.declared.lives.Lone.{Lone}
 use Rattle.ckpt_step.specs.declared.parts.LeafPart.{LeafPart}
 use Rattle.ckpt_step.proofs.TakenLeaves.{same_self}
@@ -70,10 +71,10 @@ module _ {D : Type 0} (g : Ghosts D) (old : Option Stored) (first : Books) (d : 
       let one : Captures g old first (b ∷ []) [] books mid d d = captures_kept g old first books mid b d d (looked_still g d) only may addressed.0 holds.0 live.0 at_first.0 refl refl refl in
       captures_join g old first (b ∷ []) blocks [] [] books mid (kept_books books (b ∷ blocks)) d d d refl one (kept_captures blocks mid one.may addressed.1 holds.1 (live_still books.cells (unit_of b.place.offset) (places_of blocks) live.1) at_first.1)
 
-  module _ (was : List TreePlace) (known : List Table) (lives : List Lone) (leaves : List Leaf) (had : Written) (floor : Name) (w : World) (t : Table) (i : ℕ) (books books' : Books) (places places' : List TreePlace) (more more' : List LeafPart) (taken taken' : List Addr) (may : MayGo (g.seen d) (g.may_leave d) first books old was (live_addrs lives (leaves_of t.number leaves)) i) where
+  module _ (was : List TreePlace) (known : List Table) (lives : List Lone) (leaves : List Leaf) (had : Written) (floor : Name) (n : Moment) (t : Table) (i : ℕ) (books books' : Books) (places places' : List TreePlace) (more more' : List LeafPart) (taken taken' : List Addr) (may : MayGo (g.seen d) (g.may_leave d) first books old was (live_addrs lives (leaves_of t.number leaves)) i) where
     -- the tree of before is kept
-    pub keeps_one : (p : TreePlace) → slice_get known i ≡ Some t → FollowsFrom old known lives leaves had was floor w → more' ≡ more → slice_get was i ≡ Some p → IsStill old lives leaves had w.machine t p → KeepsAll books books' p.addrs.items → books.is_held ≡ books'.is_held → places' ≡ places ++ p ∷ [] → taken' ≡ taken ++ p.addrs.items
-        → OneMore g old first was lives leaves had w t i books books' places places' more more' taken taken' d d
+    pub keeps_one : (p : TreePlace) → slice_get known i ≡ Some t → FollowsFrom old known lives leaves had was floor n.world → more' ≡ more → slice_get was i ≡ Some p → IsStill old lives leaves had n t p → KeepsAll books books' p.addrs.items → books.is_held ≡ books'.is_held → places' ≡ places ++ p ∷ [] → taken' ≡ taken ++ p.addrs.items
+        → OneMore g old first was lives leaves had n t i books books' places places' more more' taken taken' d d
     keeps_one p known_at follows more_are at still keeps held places_are taken_are = record {
       place = p;
       tree = still.tree;
@@ -118,7 +119,7 @@ module _ {D : Type 0} (g : Ghosts D) (old : Option Stored) (first : Books) (d : 
         now = books_are books' (captured_all books.cells (places_of blocks)) books.space books.is_synced books.is_held (keeps.cells ∙ ap (captured_all books.cells) is.addrs) keeps.space keeps.synced (sym held)
 
     -- nothing is captured of it
-    pub keeps_none : (e : StoreError) → (e ≡ NoSpace → ⊥) → books' ≡ books → taken' ≡ taken → NotOneMore g old first was lives leaves had w t i books books' places places' more more' taken taken' d d e
+    pub keeps_none : (e : StoreError) → (e ≡ NoSpace → ⊥) → books' ≡ books → taken' ≡ taken → NotOneMore g old first was lives leaves had n t i books books' places places' more more' taken taken' d d e
     keeps_none e never same taken_are =
         let none : Captures g old first [] [] books books d d = captures_none g old first books d only may.over.may in
         record {
@@ -135,8 +136,8 @@ module _ {D : Type 0} (g : Ghosts D) (old : Option Stored) (first : Books) (d : 
         append_none [] = refl
         append_none (x ∷ l) = ap (λ (k : List Addr). x ∷ k) (append_none l)
 
-    pub keeps_goes : (r : Result (Unit {0}) StoreError) (p : TreePlace) → slice_get known i ≡ Some t → FollowsFrom old known lives leaves had was floor w → more' ≡ more → slice_get was i ≡ Some p → IsStill old lives leaves had w.machine t p → OnOk r (KeepsAll books books' p.addrs.items) → books.is_held ≡ books'.is_held → OnOk r (places' ≡ places ++ p ∷ []) → OnOk r (taken' ≡ taken ++ p.addrs.items)
-        → OnErr r ((books' ≡ books) × (taken' ≡ taken)) → IfErr r (λ e. e ≡ NoMemory) → Goes g old first was lives leaves had w t i books books' places places' more more' taken taken' d d r
+    pub keeps_goes : (r : Result (Unit {0}) StoreError) (p : TreePlace) → slice_get known i ≡ Some t → FollowsFrom old known lives leaves had was floor n.world → more' ≡ more → slice_get was i ≡ Some p → IsStill old lives leaves had n t p → OnOk r (KeepsAll books books' p.addrs.items) → books.is_held ≡ books'.is_held → OnOk r (places' ≡ places ++ p ∷ []) → OnOk r (taken' ≡ taken ++ p.addrs.items)
+        → OnErr r ((books' ≡ books) × (taken' ≡ taken)) → IfErr r (λ e. e ≡ NoMemory) → Goes g old first was lives leaves had n t i books books' places places' more more' taken taken' d d r
     keeps_goes (Ok done) p known_at follows more_are at still keeps held places_are taken_are unchanged short = keeps_one p known_at follows more_are at still keeps held places_are taken_are
     keeps_goes (Err e) p known_at follows more_are at still keeps held place taken_are unchanged short = keeps_none e (λ is. not_space (sym short ∙ is)) unchanged.0 unchanged.1
       where

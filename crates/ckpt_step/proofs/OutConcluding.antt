@@ -13,6 +13,8 @@ use Rattle.engine_world.specs.GivingWay.{IsShelved}
 use Rattle.engine_world.specs.Parting.{IsPartedTo}
 use Rattle.engine_world.specs.Stands.{Engine, Stands}
 use Rattle.engine_world.specs.Worlds.{Records, World}
+use Rattle.engine.specs.declared.running_checkpoint.RunningCheckpoint.{RunningCheckpoint}
+use Rattle.engine.specs.Running.{RunsAs}
 use Rattle.evict_step.specs.Cuts.{AreCut}
 use Rattle.item.specs.declared.Change.{Change}
 use Rattle.kv_model.specs.AgreementLaws.{head_of}
@@ -148,7 +150,7 @@ module _ {D : Type 0} (g : Ghosts D) (old : Option Stored) (w : World) (stand st
     is : IsPartedTo w e.hub.dir e'.hub.dir put.way.leaf may.frame news put.shelf then_records
     is = parted_to e.hub.dir e'.hub.dir put.way.leaf rows news w.shelf put.shelf put.shelved w stands.dir put.now there_was stands.unused moved may.frame to_it refl
 
-    pub parted_work : IsGrown e id moved → LeftInParts g old w stand stand' e e' id before after moved
+    pub parted_work : IsGrown e w.machine id moved → LeftInParts g old w stand stand' e e' id before after moved
     parted_work grown = record {
       grown = grown;
       entries = put.entries;
@@ -170,6 +172,6 @@ module _ {D : Type 0} (g : Ghosts D) (old : Option Stored) (w : World) (stand st
 -- ---- its rows
 
 -- what a leaf is cut into where it is evicted has the newest of its keys
-pub parted_rows : (e : Engine) (w : World) (id : ℕ) (images : List Image) (moved : List Moved) (cut : AreCut e id images moved) (leaf : Leaf) → leaf_named id e.hub.dir.leaves ≡ Some leaf → Stands e w → w.machine.checkpoint ≡ None → AreRowsIn w.machine e.hub.dir.leaves leaf cut.rows
-parted_rows e w id images moved cut leaf there stands idle =
-    subst (λ (l : Leaf). AreRowsIn w.machine e.hub.dir.leaves l cut.rows) (some_same (sym cut.may.there ∙ there)) (evicted_rows e w stands id cut.may cut.rows cut.fit (λ key. versions_in key moved) (cut.evicted w stands idle))
+pub parted_rows : (e : Engine) (w : World) (running : Option RunningCheckpoint) (id : ℕ) (images : List Image) (moved : List Moved) (cut : AreCut e running id images moved) (leaf : Leaf) → leaf_named id e.hub.dir.leaves ≡ Some leaf → Stands e w → RunsAs w.machine running → AreRowsIn w.machine e.hub.dir.leaves leaf cut.rows
+parted_rows e w running id images moved cut leaf there stands runs =
+    subst (λ (l : Leaf). AreRowsIn w.machine e.hub.dir.leaves l cut.rows) (some_same (sym cut.may.there ∙ there)) (evicted_rows e w stands id cut.may cut.rows cut.fit (λ key. versions_in key moved) (cut.evicted w stands runs))

@@ -142,10 +142,14 @@ module _ (leaves : List Leaf) (table : ℕ) (key : List ℕ) (l : Leaf) (under :
         (one_more x front None none).0 refl ∙ (rest (version_at key (all_rows front)) refl empty ∙ sym empty)
 
 module _ (bytes : List ℕ) (lives : List Lone) (leaves : List Leaf) (table : ℕ) (written : Written) (place : TreePlace) (tree : TableTree) (has : HasTree bytes place.root tree) (is : IsPlaceOf place tree) (apart : LeadApart place.leaves.items) (parted : IsParted lives leaves table written place tree) where
-  -- where a tree has the newest of each key, a part has the newest of the keys of its leaf, if none was written since
-  pub part_newest : NoneLive lives leaves table → (m : Machine) (l : Leaf) → Contains leaves l → l.table ≡ table → ((key : List ℕ) → head_of (line m.history table key) ≡ shown_at key (tree_rows tree)) → AreNewestIn m leaves table l (join (part_leaves place tree (part_of written l)))
-  part_newest none m l there its newest key under =
-      newest key ∙ (ap (λ (rows : List Row). shown_at key rows) (rows_by_parts lives leaves table written place tree is apart parted none has.is)
-      ∙ ap (option_map version_in) (all_show leaves table key l under (λ x. part_leaves place tree (part_of written x)) (leaves_of table leaves) lie (member_of (leaves_of table leaves) l (there_of table leaves l there its)))) where
+  -- of a key of a leaf the part of it shows what the tree does, if none was written since
+  pub part_shows : NoneLive lives leaves table → (l : Leaf) → Contains leaves l → l.table ≡ table → (key : List ℕ) → leaf_under table key leaves ≡ Some l → shown_at key (tree_rows tree) ≡ shown_at key (join (part_leaves place tree (part_of written l)))
+  part_shows none l there its key under =
+      ap (λ (rows : List Row). shown_at key rows) (rows_by_parts lives leaves table written place tree is apart parted none has.is)
+      ∙ ap (option_map version_in) (all_show leaves table key l under (λ x. part_leaves place tree (part_of written x)) (leaves_of table leaves) lie (member_of (leaves_of table leaves) l (there_of table leaves l there its))) where
         lie : (x : Leaf) → Member x (leaves_of table leaves) → LieIn leaves table x (join (part_leaves place tree (part_of written x)))
         lie x mine = let own = in_table table leaves x mine in (parted.parts x (contains_of leaves x own.0) own.1 (none x (contains_of leaves x own.0) own.1)).lie
+
+  -- where the tree has the newest of each key, so has the part
+  pub part_newest : NoneLive lives leaves table → (m : Machine) (l : Leaf) → Contains leaves l → l.table ≡ table → ((key : List ℕ) → head_of (line m.history table key) ≡ shown_at key (tree_rows tree)) → AreNewestIn m leaves table l (join (part_leaves place tree (part_of written l)))
+  part_newest none m l there its newest key under = newest key ∙ part_shows none l there its key under

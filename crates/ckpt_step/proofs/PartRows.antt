@@ -3,11 +3,10 @@ use Rattle.std.specs.Prelude.{◌≡◌, ℕ, true, false, List, [], ◌∷◌, 
 use Rattle.std.specs.List.{AllByRecursion}
 use Rattle.std.proofs.Common.{inl, inr, sym, ◌∙◌, ap, subst}
 use Rattle.std.proofs.lemmas.Bool.{cases_Bool}
+use Rattle.item.specs.declared.Change.{Change}
 use Rattle.stamp.specs.declared.version.Version.{Version}
-use Rattle.kv_model.specs.AgreementLaws.{head_of}
-use Rattle.kv_model.specs.History.{Table, line}
+use Rattle.kv_model.specs.History.{Table}
 use Rattle.kv_model.specs.Holds.{Member}
-use Rattle.kv_model.specs.Machine.{Machine}
 use Rattle.row_page.specs.Changes.{PageChange, version_in}
 use Rattle.row_page.specs.Rows.{Row, RowFits, Ascends, is_below, key_most}
 use Rattle.row_page.proofs.Ascending.{below_trans, keys_part}
@@ -17,9 +16,9 @@ use Rattle.reconcile.proofs.Keyed.{same_key}
 use Rattle.stored.specs.Tree.{join}
 use Rattle.tree_dir.specs.declared.leaf.Leaf.{Leaf}
 use Rattle.tree_dir.specs.Leaves.{TablesBegin, leaf_under, leaves_of}
-use Rattle.ckpt_content.specs.Checkpoints.{IsRowsOf}
+use Rattle.ckpt_step.specs.Moments.{Moment, RowsServe, Serves}
 use Rattle.ckpt_step.specs.Parts.{ArePartedBy}
-use Rattle.ckpt_step.specs.Sizes.{AreNewestOf}
+use Rattle.ckpt_step.specs.Sizes.{AreServedOf}
 use Rattle.ckpt_step.proofs.LowKeys.{row_lies, rows_both}
 use Rattle.ckpt_step.proofs.Members.{all_made, all_of, some_same}
 use Rattle.ckpt_step.proofs.OrderedByName.{all_join}
@@ -111,26 +110,28 @@ module _ (all : List Leaf) (table : ℕ) where
         absurd (other.2 (ap (λ (x : Leaf). x.id) (some_same (sym other.1 ∙ (at ∙ is)))))
   ])
 
-  newest_all : (m : Machine) (key : List ℕ) (l : Leaf) → leaf_under table key all ≡ Some l → (leaves : List Leaf) (parts : List (List (List Row))) → AreOnce leaves → Member l leaves → ArePartedBy all table leaves parts → AreNewestOf m all table leaves parts
-      → head_of (line m.history table key) ≡ shown_at key (join (join parts))
-  newest_all m key l is [] parts once there parted newest = absurd there
-  newest_all m key l is (x ∷ leaves) [] once there parted newest = absurd parted
-  newest_all m key l is (x ∷ leaves) (images ∷ parts) once (inl same) parted newest =
-      newest.0 key (is ∙ ap (λ (y : Leaf). Some y) same)
-      ∙ (sym (shown_front key (join images) (join (join parts)) (others_lack key l (join (join parts)) is (λ r own. let lies = row_lies all table leaves parts r parted.1 own in (lies.0, lies.2, (λ one. all_of (λ (y : Leaf). y.id ≡ x.id → ⊥) leaves lies.0 once.0 lies.1 (one ∙ ap (λ (y : Leaf). y.id) same))))))
+  serve_all : (n : Moment) (key : List ℕ) (l : Leaf) → leaf_under table key all ≡ Some l → (leaves : List Leaf) (parts : List (List (List Row))) → AreOnce leaves → Member l leaves → ArePartedBy all table leaves parts → AreServedOf n all table leaves parts
+      → Serves n table key (shown_at key (join (join parts)))
+  serve_all n key l is [] parts once there parted serve = absurd there
+  serve_all n key l is (x ∷ leaves) [] once there parted serve = absurd parted
+  serve_all n key l is (x ∷ leaves) (images ∷ parts) once (inl same) parted serve =
+      subst (λ (o : Option (Version Change)). Serves n table key o)
+      (sym (shown_front key (join images) (join (join parts)) (others_lack key l (join (join parts)) is (λ r own. let lies = row_lies all table leaves parts r parted.1 own in (lies.0, lies.2, (λ one. all_of (λ (y : Leaf). y.id ≡ x.id → ⊥) leaves lies.0 once.0 lies.1 (one ∙ ap (λ (y : Leaf). y.id) same))))))
       ∙ ap (shown_at key) (sym (rows_both images (join parts))))
-  newest_all m key l is (x ∷ leaves) (images ∷ parts) once (inr later) parted newest =
-      newest_all m key l is leaves parts once.1 later parted.1 newest.1
-      ∙ (sym (shown_behind key (join images) (join (join parts)) (others_lack key l (join images) is (λ r own. (x, all_of (λ (q : Row). leaf_under table q.0 all ≡ Some x) (join images) r parted.0 own, (λ one. all_of (λ (y : Leaf). y.id ≡ x.id → ⊥) leaves l once.0 later (sym one))))))
+      (serve.0 key (is ∙ ap (λ (y : Leaf). Some y) same))
+  serve_all n key l is (x ∷ leaves) (images ∷ parts) once (inr later) parted serve =
+      subst (λ (o : Option (Version Change)). Serves n table key o)
+      (sym (shown_behind key (join images) (join (join parts)) (others_lack key l (join images) is (λ r own. (x, all_of (λ (q : Row). leaf_under table q.0 all ≡ Some x) (join images) r parted.0 own, (λ one. all_of (λ (y : Leaf). y.id ≡ x.id → ⊥) leaves l once.0 later (sym one))))))
       ∙ ap (shown_at key) (sym (rows_both images (join parts))))
+      (serve_all n key l is leaves parts once.1 later parted.1 serve.1)
 
--- where those of each leaf are the newest of its keys, they are the rows of the table
-pub rows_of_parts : (m : Machine) (t : Table) (all : List Leaf) (first : Leaf) (parts : List (List (List Row))) → AreOnce all → TablesBegin all → Member first all → first.table ≡ t.number → ArePartedBy all t.number (leaves_of t.number all) parts
-    → AllByRecursion (λ (images : List (List Row)). AreFit (join images)) parts → AreNewestOf m all t.number (leaves_of t.number all) parts → IsRowsOf m t (join (join parts))
-rows_of_parts m t all first parts once begins there own parted fit newest = record {
+-- where those of each leaf serve for its keys, they serve as the rows of the table
+pub rows_of_parts : (n : Moment) (t : Table) (all : List Leaf) (first : Leaf) (parts : List (List (List Row))) → AreOnce all → TablesBegin all → Member first all → first.table ≡ t.number → ArePartedBy all t.number (leaves_of t.number all) parts
+    → AllByRecursion (λ (images : List (List Row)). AreFit (join images)) parts → AreServedOf n all t.number (leaves_of t.number all) parts → RowsServe n t (join (join parts))
+rows_of_parts n t all first parts once begins there own parted fit serve = record {
   fit = fit_all all t.number (leaves_of t.number all) parts (once_table t.number all once) (λ key l also is. sym (under_of t.number key all) ∙ is) parted fit;
-  newest = λ key.
+  serve = λ key.
       let under = under_some t.number key all first begins there own in
       let at = under_in t.number key all under.0 under.1 in
-      newest_all all t.number m key under.0 under.1 (leaves_of t.number all) parts (once_table t.number all once) (table_in t.number all under.0 at.0 (begins_parts t.number key under.0 at.1).0) parted newest;
+      serve_all all t.number n key under.0 under.1 (leaves_of t.number all) parts (once_table t.number all once) (table_in t.number all under.0 at.0 (begins_parts t.number key under.0 at.1).0) parted serve;
 }

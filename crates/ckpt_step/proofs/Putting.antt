@@ -19,7 +19,8 @@ use Rattle.wt_code.specs.declared.store_error.StoreError.{StoreError}
 use Rattle.wt_code.specs.declared.store_error.StoreError.TheVariants.{NoMemory, NoSpace, Read, Down}
 use Rattle.turtle.specs.Slots.{IsNext}
 use Rattle.kv_model.specs.History.{Table}
-use Rattle.engine_world.specs.Worlds.{World}
+use Rattle.kv_model.specs.Holds.{Member}
+use Rattle.kv_model.specs.Valid.{Valid}
 use Rattle.tree_dir.specs.declared.leaf.Leaf.{Leaf}
 use Rattle.catalog.specs.Known.{NumbersAscend}
 use Rattle.stored.specs.Blocks.{Apart, Block}
@@ -31,9 +32,11 @@ use Rattle.hist_open.specs.Trees.{HasHistory}
 use Rattle.tree_write.specs.Captures.{places_of}
 use Rattle.checkpoint_core.proofs.Holding.{still_long}
 use Rattle.checkpoint_core.specs.Finishes.{IsOld, IsEither, Finishes, Fails, IsLastNow, KeepsAfter, ReadsAfter, AreBack, units_of}
-use Rattle.ckpt_content.specs.Checkpoints.{IsCheckpointOf, IsRecordOf}
+use Rattle.ckpt_content.specs.Finished.{IsFinishOf, IsRecordThen, tables_then}
+use Rattle.ckpt_content.specs.Laws.{TakenBeforeServes}
 use Rattle.ckpt_step.specs.Grounds.{number_of}
 use Rattle.ckpt_step.specs.Halves.{AllTaken, SomeTaken, IsFresh, Runs, done_at, half_cell, made_blocks, older_blocks, record_cell}
+use Rattle.ckpt_step.specs.Moments.{Moment}
 use Rattle.ckpt_step.specs.Runs.{AllPut, IsImageOf, SomePut, made_of}
 use Rattle.ckpt_step.specs.Parts.{with_parts}
 use Rattle.ckpt_step.specs.Rooms.{Written}
@@ -105,9 +108,9 @@ whole_there before after a (mid, added, is) = omega (arith, added.size)
 
 -- ---- the steps
 
-module _ {D : Type 0} (g : Ghosts D) (old : Option Stored) (lives : List Lone) (w : World) (known : List Table) (leaves : List Leaf) (had : Written) (books : Books) (places : List TreePlace) (root : Root) (stand : List Addr) (more : List LeafPart) (taken : List Addr) (before : D) where
+module _ {D : Type 0} (g : Ghosts D) (old : Option Stored) (lives : List Lone) (n : Moment) (known : List Table) (leaves : List Leaf) (had : Written) (books : Books) (places : List TreePlace) (root : Root) (stand : List Addr) (more : List LeafPart) (taken : List Addr) (before : D) where
   -- not all was captured
-  pub body_failed : (books' : Books) (after : D) (e : StoreError) → SomeTaken g old lives w known leaves had books books' places more taken before after e → SomePut g old lives w known leaves had books books' places stand more taken before after e
+  pub body_failed : (books' : Books) (after : D) (e : StoreError) → SomeTaken g old lives n known leaves had books books' places more taken before after e → SomePut g old lives n known leaves had books books' places stand more taken before after e
   body_failed books' after e some = record {
     left = inl some.left;
     kept = λ safe. some.left;
@@ -116,9 +119,9 @@ module _ {D : Type 0} (g : Ghosts D) (old : Option Stored) (lives : List Lone) (
     lacks = λ is. inl (some.lacks is);
   }
 
-  module _ (mid : D) (books' : Books) (all : AllTaken g old lives w known leaves had books books' places more taken before mid root stand) where
+  module _ (mid : D) (books' : Books) (all : AllTaken g old lives n known leaves had books books' places more taken before mid root stand) where
     -- there was no memory for the record
-    pub no_image : SomePut g old lives w known leaves had books books' places stand more taken before mid NoMemory
+    pub no_image : SomePut g old lives n known leaves had books books' places stand more taken before mid NoMemory
     no_image = record {
       left = inl all.left;
       kept = λ safe. all.left;
@@ -127,7 +130,7 @@ module _ {D : Type 0} (g : Ghosts D) (old : Option Stored) (lives : List Lone) (
       lacks = λ is. absurd (cc);
     }
 
-    module _ (next : ℕ) (ascend : NumbersAscend 1 known next) (count : length places ≡ length known) (image : List ℕ) (number : ℕ) (is_number : number ≡ number_of old) (img : IsImageOf w.machine number known places root image) (counts : (c : List ℕ) → g.may_leave mid c → g.left_since mid (g.moment before) c) where
+    module _ (next : ℕ) (ascend : NumbersAscend 1 known next) (count : length places ≡ length known) (law : TakenBeforeServes) (stood : (t : Table) → Member t known → Member t (tables_then n.world.machine n.checkpoint)) (image : List ℕ) (number : ℕ) (is_number : number ≡ number_of old) (img : IsImageOf n.world.machine n.checkpoint number known places root image) (counts : (c : List ℕ) → g.may_leave mid c → g.left_since mid (g.moment before) c) where
       abbrev pub made : Addr → Stored
       made a = made_of img.r known all.trees all.history a
 
@@ -154,27 +157,32 @@ module _ {D : Type 0} (g : Ghosts D) (old : Option Stored) (lives : List Lone) (
       turns : (after : D) (a : Addr) → LeavesOnly g mid after (IsEither (g.may_leave mid) old (made a)) → LeavesOnly g before after (IsEither (g.may_leave before) old (made a))
       turns after a left = joined g before mid after _ _ (widened g before mid _ _ all.left (λ c is. inl is)) left (either_since a)
 
-      is_made : (a : Addr) → IsCheckpointOf w.machine (number_of old) (made a)
-      is_made a = subst (λ (n : ℕ). IsCheckpointOf w.machine n (made a)) is_number (made_is known next ascend places all.trees count (g.seen mid) all.body.there img.r all.history a img.tables w.machine number img.is all.rows all.older)
+      is_made : (a : Addr) → IsFinishOf n.world.machine n.checkpoint (number_of old) (made a)
+      is_made a = subst (λ (k : ℕ). IsFinishOf n.world.machine n.checkpoint k (made a)) is_number (made_is known next ascend places all.trees count (g.seen mid) all.body.there img.r all.history a img.tables law n number stood img.is all.rows all.older)
 
       sized : (P : ℕ → ℕ → Type 0) → g.capacity mid ≡ g.capacity before → P (units_of (length image)) (g.capacity mid) → P (block_size (length (record_image img.r))) (g.capacity before)
       sized P room is = subst (λ (k : ℕ). P (block_size (length (record_image img.r))) k) room (subst (λ (l : List ℕ). P (block_size (length l)) (g.capacity mid)) img.spelled is)
 
-      record_size : (r : Record) × IsRecordOf w.machine (number_of old) r × (block_size (length (record_image img.r)) ≡ block_size (length (record_image r)))
-      record_size = (img.r, subst (λ (n : ℕ). IsRecordOf w.machine n img.r) is_number img.is, refl)
+      record_size : (r : Record) × IsRecordThen n.world.machine n.checkpoint (number_of old) r × (block_size (length (record_image img.r)) ≡ block_size (length (record_image r)))
+      record_size = (img.r, subst (λ (k : ℕ). IsRecordThen n.world.machine n.checkpoint k img.r) is_number img.is, refl)
 
-      pub all_put : (last : Books) (after : D) (a : Addr) → g.capacity mid ≡ g.capacity before → Finishes g books'.space (length image) (g.capacity mid) old (made a) mid after (Ok a) → ReadsAfter g last old (made a) after (Ok a) → IsLastNow books' last a → AreUnits last.cells last.space → last.is_held ≡ false
-          → AllPut g old lives w known leaves had books last places stand more taken before after a
-      all_put last after a room (left, each, (space, at, got)) (on, within) now units idle = record {
+      pub all_put : (last : Books) (after : D) (a : Addr) → g.capacity mid ≡ g.capacity before → Finishes g books'.space (length image) (g.capacity mid) old (made a) mid after (Ok a) → ReadsAfter g last old (made a) after (Ok a) → KeepsAfter g books' mid after (Ok a) → IsLastNow books' last a → AreUnits last.cells last.space → last.is_held ≡ false → Valid n.world.machine
+          → AllPut g old lives n known leaves had books last places stand more taken before after a
+      all_put last after a room (left, each, (space, at, got)) (on, within) still now units idle valid = record {
         r = img.r;
         trees = all.trees;
         history = all.history;
         is = is_made a;
         left = turns after a left;
         each = each;
-        placed = (books'.space, block_size (length (record_image img.r)), space, at, all.placed, record_size, sized (λ (n capacity : ℕ). Taken books'.space space n capacity at) room got);
+        placed = (books'.space, block_size (length (record_image img.r)), space, at, all.placed, record_size, sized (λ (k capacity : ℕ). Taken books'.space space k capacity at) room got);
         by_leaves = all.by_leaves;
-        of_leaves = all.of_leaves;
+        of_tables = all.of_tables;
+        apart = all.apart;
+        keeps = record {
+          part = λ from k has within_them. still.part from k (all.used from k has) (omega (arith, within_them, all.keeps.no_shorter)) ∙ all.keeps.part from k has within_them;
+          no_shorter = omega (arith, still.no_shorter, all.keeps.no_shorter);
+        };
         done = record {
           on = on;
           tables = img.tables;
@@ -193,7 +201,7 @@ module _ {D : Type 0} (g : Ghosts D) (old : Option Stored) (lives : List Lone) (
           idle = idle;
           within = within;
         };
-        follows = follows_new known next ascend places all.trees count (g.seen mid) all.body.there img.r all.history a img.tables leaves (with_parts had more) w all.rows all.by_leaves.parted all.by_leaves.shelved (leaves_lead (g.seen mid) books' all.body.runs.units places all.trees all.body.there (apart_front (trees_blocks places all.trees) (older_blocks root all.history) all.body.apart) (all_front (λ (b : Block). Has books'.cells b.place.offset b.place.size) (trees_blocks places all.trees) (older_blocks root all.history) all.body.in_use));
+        follows = follows_new known next ascend places all.trees count (g.seen mid) all.body.there img.r all.history a img.tables leaves (with_parts had more) n valid all.rows all.by_leaves.parted all.by_leaves.shelved (leaves_lead (g.seen mid) books' all.body.runs.units places all.trees all.body.there (apart_front (trees_blocks places all.trees) (older_blocks root all.history) all.body.apart) (all_front (λ (b : Block). Has books'.cells b.place.offset b.place.size) (trees_blocks places all.trees) (older_blocks root all.history) all.body.in_use));
       }
 
       runs_back : (last : Books) (after : D) (a : Addr) (e : StoreError) → ReadsAfter g last old (made a) after (Err e) → AreBack books' last → ((ReadsAfter g last old (made a) after (Err e)) → Stands (g.seen after) (g.may_leave after) last old × (end_of last.space ≤ length (g.seen after))) → 8192 ≤ length (g.seen after) → Runs (g.seen after) (g.may_leave after) last old lives taken
@@ -204,7 +212,7 @@ module _ {D : Type 0} (g : Ghosts D) (old : Option Stored) (lives : List Lone) (
       keeps_then after still = keeps_trans (Has books.cells) (g.seen before) (g.seen mid) (g.seen after) all.keeps (keeps_fewer (Has books'.cells) (Has books.cells) (g.seen mid) (g.seen after) all.used still)
 
       -- the record was not installed
-      pub not_put : (last : Books) (after : D) (a : Addr) (e : StoreError) → g.capacity mid ≡ g.capacity before → Fails g books'.space (length image) (g.capacity mid) old (made a) mid after e → ReadsAfter g last old (made a) after (Err e) → KeepsAfter g books' mid after (Err e) → AreBack books' last → SomePut g old lives w known leaves had books last places stand more taken before after e
+      pub not_put : (last : Books) (after : D) (a : Addr) (e : StoreError) → g.capacity mid ≡ g.capacity before → Fails g books'.space (length image) (g.capacity mid) old (made a) mid after e → ReadsAfter g last old (made a) after (Err e) → KeepsAfter g books' mid after (Err e) → AreBack books' last → SomePut g old lives n known leaves had books last places stand more taken before after e
       not_put last after a NoMemory room left reads still back = record {
         left = inl (keeps after left);
         kept = λ safe. keeps after left;
@@ -217,7 +225,7 @@ module _ {D : Type 0} (g : Ghosts D) (old : Option Stored) (lives : List Lone) (
         kept = λ safe. keeps after left.1;
         keeps = λ safe. keeps_then after still;
         runs = λ safe. runs_back last after a NoSpace reads back (λ r. r) (still_long old (g.seen after) reads.0.seen_has);
-        lacks = λ is. inr (books'.space, block_size (length (record_image img.r)), all.placed, record_size, sized (λ (n capacity : ℕ). HasNoRoom books'.space n capacity) room left.0);
+        lacks = λ is. inr (books'.space, block_size (length (record_image img.r)), all.placed, record_size, sized (λ (k capacity : ℕ). HasNoRoom books'.space k capacity) room left.0);
       }
       not_put last after a Read room left reads still back = record {
         left = inl (keeps after left);

@@ -13,7 +13,7 @@ use Rattle.tree_dir.specs.declared.leaf.Leaf.{Leaf}
 use Rattle.tree_write.specs.Captures.{AreDistinct}
 use Rattle.tree_write.specs.Drafts.{addrs_to, leaf_links, or_empty}
 use Rattle.tree_write.specs.Steps.{links_in}
-use Rattle.engine_world.specs.Worlds.{World}
+use Rattle.ckpt_step.specs.Moments.{Moment}
 use Rattle.ckpt_step.specs.Drafting.{AreLeavesDrafted, IsLeafDrafted}
 use Rattle.ckpt_step.specs.Parts.{part_of, parts_of, rows_behind}
 use Rattle.ckpt_step.specs.Rooms.{Written}
@@ -64,9 +64,9 @@ some_behind all leaves pre (e ∷ mine) post before (rows ∷ own) after distinc
 -- ---- the leaves of a directory that are drafted
 
 -- a leaf among them, with its images, between those before and behind
-pub record IsDraftedAt (seen : List ℕ) (leaves : List Leaf) (had : Written) (w : World) (table : ℕ) (written : Written) (front : List Leaf) (parts : List (List (List Row))) (l : Leaf) : Type 0 where
+pub record IsDraftedAt (seen : List ℕ) (leaves : List Leaf) (had : Written) (n : Moment) (table : ℕ) (written : Written) (front : List Leaf) (parts : List (List (List Row))) (l : Leaf) : Type 0 where
   pub images : List (List Row)
-  pub is : IsLeafDrafted seen leaves had w table written l images
+  pub is : IsLeafDrafted seen leaves had n table written l images
   pub pre : List Entry
   pub post : List Entry
   pub before : List (List Row)
@@ -75,13 +75,13 @@ pub record IsDraftedAt (seen : List ℕ) (leaves : List Leaf) (had : Written) (w
   pub leaves_are : join parts ≡ before ++ (images ++ after)
   pub long : length pre ≡ length before
 
-pub drafted_at : (seen : List ℕ) (leaves : List Leaf) (had : Written) (w : World) (table : ℕ) (written : Written) (front : List Leaf) (parts : List (List (List Row))) (l : Leaf) → AreLeavesDrafted seen leaves had w table written front parts → Member l front
-    → IsDraftedAt seen leaves had w table written front parts l
-drafted_at seen leaves had w table written [] parts l each there = absurd there
-drafted_at seen leaves had w table written (f ∷ front) [] l each there = absurd each
-drafted_at seen leaves had w table written (f ∷ front) (images ∷ parts) l each (inl same) = record {
+pub drafted_at : (seen : List ℕ) (leaves : List Leaf) (had : Written) (n : Moment) (table : ℕ) (written : Written) (front : List Leaf) (parts : List (List (List Row))) (l : Leaf) → AreLeavesDrafted seen leaves had n table written front parts → Member l front
+    → IsDraftedAt seen leaves had n table written front parts l
+drafted_at seen leaves had n table written [] parts l each there = absurd there
+drafted_at seen leaves had n table written (f ∷ front) [] l each there = absurd each
+drafted_at seen leaves had n table written (f ∷ front) (images ∷ parts) l each (inl same) = record {
   images = images;
-  is = subst (λ (x : Leaf). IsLeafDrafted seen leaves had w table written x images) (sym same) each.0;
+  is = subst (λ (x : Leaf). IsLeafDrafted seen leaves had n table written x images) (sym same) each.0;
   pre = [];
   post = parts_of written front;
   before = [];
@@ -90,8 +90,8 @@ drafted_at seen leaves had w table written (f ∷ front) (images ∷ parts) l ea
   leaves_are = refl;
   long = refl;
 }
-drafted_at seen leaves had w table written (f ∷ front) (images ∷ parts) l each (inr there) =
-    let one = drafted_at seen leaves had w table written front parts l each.1 there in
+drafted_at seen leaves had n table written (f ∷ front) (images ∷ parts) l each (inr there) =
+    let one = drafted_at seen leaves had n table written front parts l each.1 there in
     record {
       images = one.images;
       is = one.is;
@@ -105,9 +105,9 @@ drafted_at seen leaves had w table written (f ∷ front) (images ∷ parts) l ea
     }
 
 -- by its links it has its images
-pub drafted_leaves : (seen : List ℕ) (leaves : List Leaf) (had : Written) (w : World) (table : ℕ) (written : Written) (front : List Leaf) (parts : List (List (List Row))) (l : Leaf) → AreDistinct (addrs_to (parts_of written front)) → (at : IsDraftedAt seen leaves had w table written front parts l)
+pub drafted_leaves : (seen : List ℕ) (leaves : List Leaf) (had : Written) (n : Moment) (table : ℕ) (written : Written) (front : List Leaf) (parts : List (List (List Row))) (l : Leaf) → AreDistinct (addrs_to (parts_of written front)) → (at : IsDraftedAt seen leaves had n table written front parts l)
     → map {A = Entry} (λ e. rows_behind (links_in (parts_of written front)) (join parts) e.link) (part_of written l) ≡ at.images
-drafted_leaves seen leaves had w table written front parts l distinct at =
+drafted_leaves seen leaves had n table written front parts l distinct at =
     some_behind (parts_of written front) (join parts) at.pre (part_of written l) at.post at.before at.images at.after distinct at.entries_are at.leaves_are at.long at.is.many
 
 -- ---- in the tree of them
@@ -125,6 +125,6 @@ tree_behind (x ∷ es) (rows ∷ leaves) e long there = refl
 pub tree_leaves : (es : List Entry) (leaves : List (List Row)) (part : List Entry) → length es ≡ length leaves → ((e : Entry) → Member e part → Member e es) → map {A = Entry} (λ e. rows_behind (leaf_links es) (or_empty leaves) e.link) part ≡ map {A = Entry} (λ e. rows_behind (links_in es) leaves e.link) part
 tree_leaves es leaves part long within = mapped_same (λ e. rows_behind (leaf_links es) (or_empty leaves) e.link) (λ e. rows_behind (links_in es) leaves e.link) part (λ e there. tree_behind es leaves e long (within e there))
 
-pub drafted_within : (seen : List ℕ) (leaves : List Leaf) (had : Written) (w : World) (table : ℕ) (written : Written) (front : List Leaf) (parts : List (List (List Row))) (l : Leaf) → (at : IsDraftedAt seen leaves had w table written front parts l) → (e : Entry) → Member e (part_of written l) → Member e (parts_of written front)
-drafted_within seen leaves had w table written front parts l at e there =
+pub drafted_within : (seen : List ℕ) (leaves : List Leaf) (had : Written) (n : Moment) (table : ℕ) (written : Written) (front : List Leaf) (parts : List (List (List Row))) (l : Leaf) → (at : IsDraftedAt seen leaves had n table written front parts l) → (e : Entry) → Member e (part_of written l) → Member e (parts_of written front)
+drafted_within seen leaves had n table written front parts l at e there =
     subst (λ (m : List Entry). Member e m) (sym at.entries_are) (in_back at.pre (part_of written l ++ at.post) e (in_front (part_of written l) at.post e there))

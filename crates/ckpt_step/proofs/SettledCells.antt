@@ -1,8 +1,9 @@
 -- The cells of the books once a checkpoint is given up, and once it is settled.
-use Rattle.std.specs.Prelude.{◌≡◌, ◌⊎◌, ℕ, ◌+◌, ◌*◌, ◌/◌, Bool, true, false, List, [], ◌∷◌, Option, refl}
+use Rattle.std.specs.Prelude.{◌≡◌, ◌⊎◌, ℕ, ◌+◌, ◌*◌, ◌/◌, ◌==◌, Bool, true, false, List, [], ◌∷◌, ◌++◌, Option, if◌then◌else◌, refl}
 use Rattle.std.specs.List.{fold}
 use Rattle.std.proofs.Common.{inl, inr, sym, ◌∙◌, ap, subst, arith}
 use Rattle.std.proofs.lemmas.Bool.{cases_Bool, eq-eqb, false≢true, ne_eqb}
+use Rattle.std.proofs.lemmas.List.Sums.{fold-append}
 use Rattle.block_mgr.specs.declared.cell.Cell.{Cell}
 use Rattle.block_mgr.specs.Cells.{done_cell, dropped_cell, fresh, nothing}
 use Rattle.block_mgr.specs.Open.{found_cell}
@@ -11,17 +12,22 @@ use Rattle.kv_model.specs.Holds.{Member}
 use Rattle.stored.specs.Stored.{Stored}
 use Rattle.ckpt_step.specs.Frees.{without, without_all, without_new, without_news}
 use Rattle.ckpt_step.specs.Grounds.{AreLone, found_in, start_cell}
-use Rattle.ckpt_step.specs.Halves.{AreOwn, IsOldBlock, body_cell, done_at, half_cell, held_cell, record_cell, settled_at, with_last}
+use Rattle.ckpt_step.specs.Halves.{AreApartFrom, AreOwn, IsFresh, IsOldBlock, body_cell, done_at, half_cell, held_cell, record_cell, settled_at, with_last}
 use Rattle.ckpt_step.specs.Lives.{has_at}
 use Rattle.ckpt_step.specs.declared.lives.Lone.{Lone}
 use Rattle.ckpt_step.proofs.Cells.{Begins, OldCell, begins_or_not, old_cell, taken_cell, which, whole_units}
 use Rattle.ckpt_step.proofs.Frees.{all_dead, all_last, all_stay, elsewhere, one_goes}
-use Rattle.ckpt_step.proofs.Lones.{StartCell, lone_cell, none_at, some_at, start_kind, which_lone}
+use Rattle.ckpt_step.proofs.Lones.{HasNoLone, StartCell, lone_cell, none_at, some_at, start_kind, which_lone}
+use Rattle.ckpt_step.proofs.LonesMore.{has_some, of_none}
 
 -- the addresses are blocks of before, and with the captured ones they are all of them but that of the record
 pub record AreLeft (old : Option Stored) (lives : List Lone) (captured addrs : List Addr) : Type 0 where
   pub each : (a : Addr) → Member a addrs → IsOldBlock old lives a
   pub all : (u : ℕ) → (start_cell old lives u).is_live ≡ true → ((a : Addr) → Member a captured → Begins u a → ⊥) → (a : Addr) × Member a addrs × (a.offset ≡ 8192 + 4096 * u)
+
+-- the record's block, or one that is captured
+abbrev pub last_at : List Addr → Addr → ℕ → Cell
+last_at captured a u = if a.offset == 8192 + 4096 * u then record_cell a else fold (with_last u) nothing captured
 
 dropped_start : (c : Cell) → StartCell c → dropped_cell c ≡ c
 dropped_start c (inl none) = rw none refl
@@ -144,8 +150,8 @@ module _ (old : Option Stored) (lives : List Lone) (captured : List Addr) (own :
             let same : n ≡ block.units = ap (λ (c : Cell). c.units) (sym is ∙ cell) in
             ap (λ (c : Cell). without_all u (done_cell c) was) is ∙ one_goes u (fresh n) was there.0 there.1 there.2 refl refl (block.size ∙ ap (λ (k : ℕ). 4096 * k) (sym same))
 
-    pub settled : (a : Addr) → without_all u (done_at old lives captured a u) was ≡ settled_at captured a u
-    settled a = elim (begins_or_not u a) [
+    none_other : (a : Addr) → without_all u (done_at old lives captured a u) was ≡ last_at captured a u
+    none_other a = elim (begins_or_not u a) [
       | inl at ↦
           let is = eq-eqb a.offset (8192 + 4096 * u) at in
           rw is (all_dead u (record_cell a) was refl)
@@ -153,3 +159,36 @@ module _ (old : Option Stored) (lives : List Lone) (captured : List Addr) (own :
           let isnt = ne_eqb a.offset (8192 + 4096 * u) far in
           rw isnt body_settled
     ]
+
+  -- where none stays that was written since
+  no_other : (others : List Lone) (a : Addr) → HasNoLone u others → settled_at captured others a u ≡ last_at captured a u
+  no_other others a none = elim (cases_Bool (a.offset == 8192 + 4096 * u)) [
+    | inl is ↦ rw is refl
+    | inr isnt ↦ rw isnt (none.cell (fold (with_last u) nothing captured))
+  ]
+
+  -- before: the blocks of the checkpoint before, but those of its trees that stay; since: those of the leaves that were written since, of which these others stay
+  pub settled : (before since : List Addr) (others : List Lone) (a : Addr) → AreApartFrom old lives captured before others → IsFresh old lives captured a → AreLeft old lives captured (before ++ since) → without_news others u (without_all u (done_at old lives captured a u) before) since ≡ settled_at captured others a u
+  settled before since others a from new are = elim (which_lone u others) [
+    | inl one ↦ elim (which u captured) [
+      | inl caught ↦ absurd (from.apart one.lone caught.addr one.there caught.there (caught.at ∙ sym one.at))
+      | inr none ↦
+          let size : ℕ = one.lone.addr.size / 4096 in
+          let half : half_cell old lives captured u ≡ fresh size = none.half found ∙ lone_cell old lives from.lone u one.lone (from.among one.lone one.there) one.at in
+          let far : a.offset ≡ 8192 + 4096 * u → ⊥ = λ at.
+          let same : new.0 ≡ u = omega (arith, new.1, at) in
+          false≢true (ap (λ (c : Cell). c.is_live) (sym (subst (λ (v : ℕ). half_cell old lives captured v ≡ nothing) same new.2) ∙ half)) in
+          let isnt : (a.offset == 8192 + 4096 * u) ≡ false = ne_eqb a.offset (8192 + 4096 * u) far in
+          let has : has_at others (8192 + 4096 * u) ≡ true = subst (λ (n : ℕ). has_at others n ≡ true) one.at (has_some others one.lone one.there) in
+          let done : done_at old lives captured a u ≡ fresh size = rw isnt (ap done_cell half) in
+          let last : settled_at captured others a u ≡ fresh size = rw isnt (one.cell (fold (with_last u) nothing captured)) in
+          ap (λ (c : Cell). without_news others u (without_all u c before) since) done
+          ∙ (ap (λ (c : Cell). without_news others u c since) (all_stay u (fresh size) before (λ b there. elsewhere u (fresh size) b (λ at. from.elsewhere one.lone b one.there there (at ∙ sym one.at))))
+          ∙ (all_there others u (fresh size) since has ∙ sym last))
+    ]
+    | inr none ↦
+        let cell : Cell = done_at old lives captured a u in
+        all_same others u (without_all u cell before) since (of_none others (8192 + 4096 * u) none.none)
+        ∙ (sym (fold-append {A = Addr} {B = Cell} (without u) cell before since)
+        ∙ (none_other (before ++ since) are a ∙ sym (no_other others a none)))
+  ]

@@ -1,5 +1,5 @@
 -- The parts of a table's leaves, where leaves of other tables are written too.
-use Rattle.std.specs.Prelude.{◌≡◌, ℕ, zero, suc, ◌<◌, List, [], ◌∷◌, ◌++◌, take, Option, None, Some, refl, slice_get}
+use Rattle.std.specs.Prelude.{◌≡◌, ℕ, zero, suc, ◌<◌, ◌≤◌, length, List, [], ◌∷◌, ◌++◌, take, Option, None, Some, refl, slice_get}
 use Rattle.std.specs.List.{Contains}
 use Rattle.std.proofs.Common.{inl, inr, sym, ◌∙◌, ap, subst, arith}
 use Rattle.device_layout.specs.declared.link.Link.{Link}
@@ -15,10 +15,10 @@ use Rattle.tree_dir.proofs.Parting.{ids-name}
 use Rattle.tree_open.specs.declared.place.TreePlace.{TreePlace}
 use Rattle.tree_write.specs.Drafts.{aligned}
 use Rattle.tree_write.specs.Steps.{links_in}
-use Rattle.ckpt_step.specs.Goings.{AreOfTables, HasPartsAt}
+use Rattle.ckpt_step.specs.Goings.{HasPartsAt}
 use Rattle.ckpt_step.specs.Grounds.{AreRoots, AreSince, AreWritten}
 use Rattle.ckpt_step.specs.Lives.{NoneLive}
-use Rattle.ckpt_step.specs.Parts.{AreOfLeaves, IsPart, IsParted, has_rows, links_over, part_leaves, part_of, parts_of, with_parts}
+use Rattle.ckpt_step.specs.Parts.{AreOfLeaves, AreOfTables, IsPart, IsParted, has_rows, links_over, part_leaves, part_of, parts_of, with_parts}
 use Rattle.ckpt_step.specs.Rooms.{Written}
 use Rattle.ckpt_step.specs.Trees.{HasTreeAt, leaves_at}
 use Rattle.tree_write.specs.Writes.{LeadApart}
@@ -47,6 +47,15 @@ at_take [] (suc n) j x at lt = absurd (none_some at)
 at_take (y ∷ l) (suc n) zero x at lt = at
 at_take (y ∷ l) (suc n) (suc j) x at lt = at_take l n j x at (omega (arith, lt))
 
+pub take_few : {A : Type 0} (l : List A) (n : ℕ) → length (take n l) ≤ n
+take_few l zero = omega arith
+take_few [] (suc n) = omega arith
+take_few (x ∷ l) (suc n) = omega (arith, take_few l n)
+
+-- each of these tables has the same place among those
+abbrev pub AreAmong : List Table → List Table → Type 0
+AreAmong known every = (j : ℕ) (u : Table) → slice_get known j ≡ Some u → slice_get every j ≡ Some u
+
 -- ---- parts that are alike
 
 pub parted_alike : (lives : List Lone) (leaves : List Leaf) (table : ℕ) (written next : Written) (place : TreePlace) (tree : TableTree) → ((l : Leaf) → Contains leaves l → l.table ≡ table → written l.id ≡ next l.id) → IsParted lives leaves table written place tree → IsParted lives leaves table next place tree
@@ -58,21 +67,24 @@ parted_alike lives leaves table written next place tree same parted = record {
 
 -- ---- leaves of two tables
 
-module _ (d : Directory) (is : IsDirectory d) (known : List Table) (next : ℕ) (ascend : NumbersAscend 1 known next) where
-  pub one_table : (x l : Leaf) (i j : ℕ) (t u : Table) → Contains d.leaves x → Contains d.leaves l → x.id ≡ l.id → x.table ≡ t.number → l.table ≡ u.number → slice_get known i ≡ Some t → slice_get known j ≡ Some u → i ≡ j
+-- of one id there is one
+pub same_leaf : (d : Directory) → IsDirectory d → (x l : Leaf) → Contains d.leaves x → Contains d.leaves l → x.id ≡ l.id → x ≡ l
+same_leaf d is x l one two same = some_same (sym (ids-name d is x one) ∙ (ap (λ (n : ℕ). leaf_named n d.leaves) same ∙ ids-name d is l two))
+
+module _ (d : Directory) (is : IsDirectory d) (every : List Table) (next : ℕ) (ascend : NumbersAscend 1 every next) where
+  pub one_table : (x l : Leaf) (i j : ℕ) (t u : Table) → Contains d.leaves x → Contains d.leaves l → x.id ≡ l.id → x.table ≡ t.number → l.table ≡ u.number → slice_get every i ≡ Some t → slice_get every j ≡ Some u → i ≡ j
   one_table x l i j t u one two same own its at also =
-      let equal : x ≡ l = some_same (sym (ids-name d is x one) ∙ (ap (λ (n : ℕ). leaf_named n d.leaves) same ∙ ids-name d is l two)) in
-      place_one 1 known next i j t u ascend at also (sym own ∙ (ap (λ (y : Leaf). y.table) equal ∙ its))
+      place_one 1 every next i j t u ascend at also (sym own ∙ (ap (λ (y : Leaf). y.table) (same_leaf d is x l one two same) ∙ its))
 
   in_dir : (table : ℕ) (x : Leaf) → Contains (leaves_of table d.leaves) x → Contains d.leaves x × (x.table ≡ table)
   in_dir table x there = let one = in_table table d.leaves x (member_of (leaves_of table d.leaves) x there) in (contains_of d.leaves x one.0, one.1)
 
-  module _ (had : Written) (i : ℕ) (t : Table) (at : slice_get known i ≡ Some t) (more own_more : List LeafPart) (of_first : AreOfTables (take i known) d.leaves more) (of_table : AreOfLeaves (leaves_of t.number d.leaves) own_more) where
+  module _ (known : List Table) (front : AreAmong known every) (had : Written) (i : ℕ) (t : Table) (at : slice_get known i ≡ Some t) (more own_more : List LeafPart) (of_first : AreOfTables (take i known) d.leaves more) (of_table : AreOfLeaves (leaves_of t.number d.leaves) own_more) where
     -- what is written of this table leaves the parts of the others
     pub others_alike : (j : ℕ) (u : Table) → slice_get known j ≡ Some u → (j ≡ i → ⊥) → (l : Leaf) → Contains d.leaves l → l.table ≡ u.number → with_parts had more l.id ≡ with_parts had (more ++ own_more) l.id
     others_alike j u also other l there own = sym (with_both had more own_more l.id ∙ with_none (with_parts had more) own_more l.id
         (all_into (λ (p : LeafPart). (x : Leaf) × Contains (leaves_of t.number d.leaves) x × (x.id ≡ p.leaf)) (λ (p : LeafPart). p.leaf ≡ l.id → ⊥) own_more
-        (λ p one same. let x = in_dir t.number one.0 one.1 in other (sym (one_table one.0 l i j t u x.0 there (one.2 ∙ same) x.1 own at also))) of_table))
+        (λ p one same. let x = in_dir t.number one.0 one.1 in other (sym (one_table one.0 l i j t u x.0 there (one.2 ∙ same) x.1 own (front i t at) (front j u also)))) of_table))
 
     -- what was written of others leaves those of this one
     pub own_alike : (l : Leaf) → Contains d.leaves l → l.table ≡ t.number → with_parts had own_more l.id ≡ with_parts had (more ++ own_more) l.id
@@ -81,7 +93,7 @@ module _ (d : Directory) (is : IsDirectory d) (known : List Table) (next : ℕ) 
         (λ p one same.
         let first = take_at known i one.0 one.1 one.2 in
         let x = in_dir one.1.number one.3.0 one.3.1 in
-        let place = one_table one.3.0 l one.0 i one.1 t x.0 there (one.3.2 ∙ same) x.1 own first.0 at in
+        let place = one_table one.3.0 l one.0 i one.1 t x.0 there (one.3.2 ∙ same) x.1 own (front one.0 one.1 first.0) (front i t at) in
         omega (arith, first.1, place)) of_first)))
 
     -- and all are of the first tables

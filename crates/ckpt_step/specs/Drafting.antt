@@ -9,7 +9,6 @@ use Rattle.wt_code.specs.declared.store_error.StoreError.{StoreError}
 use Rattle.wt_code.specs.declared.store_error.StoreError.TheVariants.{NoSpace}
 use Rattle.disk_model.specs.Crash.{LeavesOnly}
 use Rattle.checkpoint_core.specs.Finishes.{IsOld}
-use Rattle.engine_world.specs.Worlds.{World}
 use Rattle.row_page.specs.Rows.{Row}
 use Rattle.stored.specs.Blocks.{Block}
 use Rattle.stored.specs.Stored.{Stored}
@@ -24,20 +23,21 @@ use Rattle.tree_write.specs.Cuts.{AreFullLeaves}
 use Rattle.tree_write.specs.Drafts.{AreLiveLeaves, Drafted, StandBelow, aligned}
 use Rattle.tree_write.specs.Steps.{LeavesStopped, links_in}
 use Rattle.tree_write.specs.Writes.{KeepSame}
-use Rattle.ckpt_step.specs.Floors.{AreNewestIn, IsAsItLies}
+use Rattle.ckpt_step.specs.Floors.{IsAsItLies}
+use Rattle.ckpt_step.specs.Moments.{AreServedIn, Moment}
 use Rattle.ckpt_step.specs.Parts.{AreOfLeaves, ArePartedBy, IsPart, links_over, part_of, parts_of, with_parts}
 use Rattle.ckpt_step.specs.Rooms.{Written}
 use Rattle.ckpt_step.specs.Sizes.{LacksFront}
 use Rattle.ckpt_step.specs.declared.parts.LeafPart.{LeafPart}
 
 -- table: the number of the table; leaves: those of the directory; had: what the checkpoint before has of them; seen: what the device had as the table was begun
-module _ (seen : List ℕ) (leaves : List Leaf) (had : Written) (w : World) (table : ℕ) where
-  -- A leaf is captured, and the entries of its images are its part now. The rows are the newest of its keys, and where it is in no frame, or was not written, those of its block. An image that the checkpoint before has at the same place keeps its block.
+module _ (seen : List ℕ) (leaves : List Leaf) (had : Written) (n : Moment) (table : ℕ) where
+  -- A leaf is captured, and the entries of its images are its part now. The rows serve the checkpoint, and where it is in no frame, or was not written, those of its block. An image that the checkpoint before has at the same place keeps its block.
   pub record IsLeafDrafted (written : Written) (l : Leaf) (images : List (List Row)) : Type 0 where
     pub is : IsPart leaves table l (part_of written l) images
     pub many : length (part_of written l) ≡ length images
-    pub newest : AreNewestIn w.machine leaves table l (join images)
-    pub shelved : IsAsItLies written l → join images ≡ w.shelf l.id
+    pub serve : AreServedIn n leaves table l (join images)
+    pub shelved : IsAsItLies written l → join images ≡ n.world.shelf l.id
     pub same : KeepSame seen (links_in (part_of had l)) (links_in (part_of written l)) images
 
   -- so is each of these
@@ -48,7 +48,7 @@ module _ (seen : List ℕ) (leaves : List Leaf) (had : Written) (w : World) (tab
   AreLeavesDrafted written (l ∷ front) (images ∷ parts) = IsLeafDrafted written l images × AreLeavesDrafted written front parts
 
 -- books, more, captured, before: as the table was begun
-module _ {D : Type 0} (g : Ghosts D) (old : Option Stored) (first : Books) (leaves : List Leaf) (had : Written) (w : World) (table : ℕ) (books books' : Books) (more more' : List LeafPart) (captured captured' : List Addr) (before after : D) where
+module _ {D : Type 0} (g : Ghosts D) (old : Option Stored) (first : Books) (leaves : List Leaf) (had : Written) (n : Moment) (table : ℕ) (books books' : Books) (more more' : List LeafPart) (captured captured' : List Addr) (before after : D) where
   -- the first leaves of the table are captured, and the draft has these entries
   pub record Drafting (front : List Leaf) (es : List Entry) : Type 0 where
     pub parts : List (List (List Row))
@@ -61,7 +61,7 @@ module _ {D : Type 0} (g : Ghosts D) (old : Option Stored) (first : Books) (leav
     pub drafted : Drafted g old first books books' before after (links_over had front parts) (join parts) addrs es
     pub stand : StandBelow es parts
     pub entries_are : es ≡ parts_of (with_parts had own_more) front
-    pub each : AreLeavesDrafted (g.seen before) leaves had w table (with_parts had own_more) front parts
+    pub each : AreLeavesDrafted (g.seen before) leaves had n table (with_parts had own_more) front parts
 
   -- some of them are, and then there is an error: without room not even for the first ones
   pub record DraftStopped (e : StoreError) : Type 0 where
@@ -70,7 +70,7 @@ module _ {D : Type 0} (g : Ghosts D) (old : Option Stored) (first : Books) (leav
     pub captured_are : captured' ≡ captured ++ places_of blocks
     pub captures : IsSafe e → Captures g old first blocks sizes books books' before after
     pub left : LeavesOnly g before after (IsOld (g.may_leave before) old)
-    pub lacks : e ≡ NoSpace → (front : List Leaf) × LacksFront (g.seen before) (g.capacity before) leaves had w.machine table books.space front
+    pub lacks : e ≡ NoSpace → (front : List Leaf) × LacksFront (g.seen before) (g.capacity before) leaves had n table books.space front
 
   abbrev pub Drafts : List Leaf → List Entry → Result (Unit {0}) StoreError → Type 0
   Drafts front es (Ok done) = Drafting front es

@@ -9,6 +9,7 @@ use Rattle.wt_code.specs.declared.refusals.Refusal.{Refusal}
 use Rattle.reconcile.specs.declared.image.Image.{Image}
 use Rattle.reconcile.specs.declared.image.Moved.{Moved}
 use Rattle.reconcile.specs.Moving.{versions_in}
+use Rattle.kv_model.specs.Machine.{Machine}
 use Rattle.row_page.specs.Rows.{Row}
 use Rattle.stored.specs.Stored.{Stored}
 use Rattle.stored.specs.TableTree.{Entry}
@@ -22,8 +23,10 @@ use Rattle.engine_world.specs.Stands.{Engine, Stands}
 use Rattle.engine_world.specs.Systems.{with_fault}
 use Rattle.engine_world.specs.Worlds.{World, with_records}
 use Rattle.engine.specs.declared.evicting.Stays.{Stays as Why}
+use Rattle.engine.specs.declared.running_checkpoint.RunningCheckpoint.{RunningCheckpoint}
 use Rattle.engine.specs.Evictions.{HasBeenEvicted, KeepsLeaf}
 use Rattle.engine.specs.Partings.{HasParted, KeepsWhole}
+use Rattle.engine.specs.Running.{RunsAs}
 use Rattle.evict_step.specs.Cuts.{AreCut, IsLeastUnended}
 use Rattle.evict_step.specs.Kept.{KeepsAt, KeepsMore, KeepsThese, Lists, lying_in, with_moved}
 use Rattle.ckpt_step.specs.declared.evicting.Evicted.{Evicted}
@@ -39,19 +42,23 @@ use Rattle.ckpt_step.specs.WritesOut.{NotWritten, RefusesOut}
 -- ---- a leaf that stays
 
 -- where it may be evicted, its rows need more than one block, and these versions of its keys move to the history
-pub record IsGrown (e : Engine) (id : ℕ) (moved : List Moved) : Type 0 where
+pub record IsGrown (e : Engine) (m : Machine) (id : ℕ) (moved : List Moved) : Type 0 where
+  pub running : Option RunningCheckpoint
+  pub runs : RunsAs m running
   pub images : List Image
-  pub cut : AreCut e id images moved
+  pub cut : AreCut e running id images moved
   pub more : 2 ≤ length images
 
 -- why it stays at this moment: it may not be evicted, or its rows need more than one block, and it may not part
-abbrev pub WhyNotNow : Engine → ℕ → Why → Type 0
-WhyNotNow e id why = KeepsLeaf e id why ⊎ ((moved : List Moved) × IsGrown e id moved × KeepsWhole e id why)
+abbrev pub WhyNotNow : Engine → Machine → ℕ → Why → Type 0
+WhyNotNow e m id why = KeepsLeaf e id why ⊎ ((moved : List Moved) × IsGrown e m id moved × KeepsWhole e id why)
 
 -- where it may be evicted, none of its keys has a version
-pub record HoldsNone (e : Engine) (id : ℕ) : Type 0 where
+pub record HoldsNone (e : Engine) (m : Machine) (id : ℕ) : Type 0 where
+  pub running : Option RunningCheckpoint
+  pub runs : RunsAs m running
   pub moved : List Moved
-  pub cut : AreCut e id [] moved
+  pub cut : AreCut e running id [] moved
 
 -- ---- the engine then, whatever the disk
 
@@ -89,7 +96,7 @@ module _ {D : Type 0} (g : Ghosts D) (old : Option Stored) (w : World) (stand st
 
   -- The leaf, whose rows need more than one block, parted into others, each in a block that the live tree alone has, in the world in which their blocks have its rows, and the history has of each what moved of the keys that lie in it. forgets: nothing is kept of what checkpoints wrote of it; freed: nor its former block, where it was written since the one before.
   pub record LeftInParts (moved : List Moved) : Type 0 where
-    pub grown : IsGrown e id moved
+    pub grown : IsGrown e w.machine id moved
     pub entries : List Entry
     pub parted : HasParted e e' id entries
     pub ids : e.hub.dir.next ≤ e'.hub.dir.next
@@ -107,7 +114,7 @@ module _ {D : Type 0} (g : Ghosts D) (old : Option Stored) (w : World) (stand st
 
   -- The leaf, of which no key has a version, left its frame and leads where it led, to no rows, in the world in which the calls that had found it may be told so, and in which its block has no rows and the history nothing of it. Nothing was written. forgets: nothing is kept of what checkpoints wrote of it.
   pub record LeftEmpty : Type 0 where
-    pub none : HoldsNone e id
+    pub none : HoldsNone e w.machine id
     pub link : Link
     pub out : HasBeenEvicted e e' id link
     pub led : link ≡ out.may.leaf.entry.link
@@ -136,7 +143,7 @@ module _ {D : Type 0} (g : Ghosts D) (old : Option Stored) (w : World) (stand st
   Evicts (Ok Done) = HasLeftFrame
   Evicts (Ok Parted) = HasLeftInParts
   Evicts (Ok Emptied) = LeftEmpty
-  Evicts (Ok (Stays why)) = NotWritten g old w stand stand' e e' id before after × WhyNotNow e id why
+  Evicts (Ok (Stays why)) = NotWritten g old w stand stand' e e' id before after × WhyNotNow e w.machine id why
   Evicts (Ok (Unresolved by)) = NotWritten g old w stand stand' e e' id before after × IsLeastUnended e w.machine id by
-  Evicts (Ok Empty) = NotWritten g old w stand stand' e e' id before after × HoldsNone e id
+  Evicts (Ok Empty) = NotWritten g old w stand stand' e e' id before after × HoldsNone e w.machine id
   Evicts (Err r) = RefusesOut g old w stand stand' e e' id before after r

@@ -18,11 +18,9 @@ use Rattle.call_steps.specs.declared.hub.Hub.{Hub}
 use Rattle.engine_world.specs.Worlds.{Records, World}
 use Rattle.tree_open.specs.declared.place.TreePlace.{TreePlace}
 use Rattle.tree_write.specs.Drafts.{HasLeaves}
-use Rattle.recover_open.specs.Bare.{tree_rows}
-use Rattle.ckpt_content.specs.Checkpoints.{IsRowsOf}
 use Rattle.ckpt_step.specs.Trees.{HasTreeAt}
-use Rattle.ckpt_step.specs.Lives.{NoneLive, is_live}
-use Rattle.ckpt_step.specs.Parts.{AreBelowFloor, IsPart, IsParted, part_in, part_leaves, part_of}
+use Rattle.ckpt_step.specs.Lives.{is_live}
+use Rattle.ckpt_step.specs.Parts.{AreBelowFloor, IsPart, part_in, part_leaves, part_of}
 use Rattle.ckpt_step.specs.Rooms.{Written, known_in}
 use Rattle.ckpt_step.specs.declared.ground.Ground.{Ground}
 use Rattle.ckpt_step.specs.declared.lives.Lone.{Lone}
@@ -96,13 +94,3 @@ AreOnDevice seen lives leaves shelf = (l : Leaf) → Contains leaves l → is_li
 
 abbrev pub AreLivesOn : List ℕ → Hub → Ground → World → Type 0
 AreLivesOn seen hub g w = AreOnDevice seen g.lives hub.dir.leaves w.shelf
-
--- ---- tables that are as they were
-
--- the tree there, of the parts of the table's leaves, of which none was written since, is still that of the table
-pub record IsStill (old : Option Stored) (lives : List Lone) (leaves : List Leaf) (written : Written) (m : Machine) (t : Table) (place : TreePlace) : Type 0 where
-  pub tree : TableTree
-  pub has : HasTreeAt old t place tree
-  pub none : NoneLive lives leaves t.number
-  pub parted : IsParted [] leaves t.number written place tree
-  pub is : IsRowsOf m t (tree_rows tree)

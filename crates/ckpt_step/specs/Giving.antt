@@ -4,6 +4,7 @@ use Rattle.std.specs.List.{AllByRecursion}
 use Rattle.std.specs.Option.{option_to_list}
 use Rattle.kv_model.specs.History.{Table}
 use Rattle.kv_model.specs.Machine.{Machine}
+use Rattle.kv_model.specs.Valid.{Valid}
 use Rattle.recover_open.specs.Bare.{tree_rows}
 use Rattle.row_page.specs.Rows.{Row}
 use Rattle.stored.specs.Stored.{Stored}
@@ -16,12 +17,13 @@ use Rattle.engine_world.specs.GivingWay.{IsShelved}
 use Rattle.engine_world.specs.Stands.{Engine, Stands}
 use Rattle.engine_world.specs.Worlds.{World}
 use Rattle.engine.specs.Frames.{HasGivenWay}
-use Rattle.ckpt_content.specs.Checkpoints.{IsCheckpointOf, IsRowsOf}
+use Rattle.ckpt_content.specs.Checkpoints.{IsRowsOf}
 use Rattle.ckpt_step.specs.Floors.{AreLivesOn, Follows}
 use Rattle.ckpt_step.specs.Grounds.{StandsOn}
 use Rattle.ckpt_step.specs.Lives.{NoneLive}
 use Rattle.ckpt_step.specs.Parts.{part_in}
 use Rattle.ckpt_step.specs.Rooms.{Written, known_in}
+use Rattle.ckpt_step.specs.Takes.{IsWholeOf}
 use Rattle.ckpt_step.specs.Trees.{HasTreeAt}
 use Rattle.ckpt_step.specs.declared.ground.Ground.{Ground}
 
@@ -47,7 +49,7 @@ HasNewest old m = (t : Table) (place : TreePlace) (tree : TableTree) → HasTree
 
 -- as one has that is taken of the machine
 abbrev pub CheckpointsHaveNewest : Type 0
-CheckpointsHaveNewest = (m : Machine) (number : ℕ) (s : Stored) → IsCheckpointOf m number s → HasNewest (Some s) m
+CheckpointsHaveNewest = (m : Machine) (number : ℕ) (s : Stored) → Valid m → IsWholeOf m number s → HasNewest (Some s) m
 
 -- nothing is kept of the leaf of this id any more
 pub record Forgets (g g' : Ground) (id : ℕ) : Type 0 where

@@ -1,6 +1,6 @@
 -- Trees that are captured one after the other.
 use Rattle.std.specs.Prelude.{◌≡◌, ◌≢◌, ◌⊎◌, ◌<◌, ℕ, true, false, List, [], ◌∷◌, ◌++◌, drop, length, take, Option, None, Some, Result, Ok, Err, slice_get}
-use Rattle.std.specs.List.{AllByRecursion, Contains}
+use Rattle.std.specs.List.{Contains}
 use Rattle.disk_model.specs.Crash.{Keeps, LeavesOnly}
 use Rattle.disk_model.specs.declared.disk.Disk.{Ghosts}
 use Rattle.extent_list.specs.Space.{Space}
@@ -11,7 +11,6 @@ use Rattle.wt_code.specs.declared.store_error.StoreError.{StoreError}
 use Rattle.wt_code.specs.declared.store_error.StoreError.TheVariants.{NoSpace}
 use Rattle.kv_model.specs.History.{Table}
 use Rattle.kv_model.specs.Holds.{Member}
-use Rattle.engine_world.specs.Worlds.{World}
 use Rattle.tree_dir.specs.declared.leaf.Leaf.{Leaf}
 use Rattle.tree_dir.specs.Leaves.{leaves_of}
 use Rattle.row_page.specs.Rows.{Row}
@@ -29,12 +28,12 @@ use Rattle.tree_write.specs.Sizes.{LacksAll, WritesTree}
 use Rattle.tree_write.specs.Drafts.{IsCutBy}
 use Rattle.tree_write.specs.Steps.{links_in}
 use Rattle.tree_write.specs.Writes.{KeepSame, LeadApart, MayWriteOver}
-use Rattle.ckpt_content.specs.Checkpoints.{AreRowsOf, IsRowsOf}
 use Rattle.ckpt_step.specs.Floors.{IsAsItLies}
 use Rattle.ckpt_step.specs.Grounds.{IsSince}
 use Rattle.ckpt_step.specs.Halves.{ByLeaves, Half, IsNewBlock}
 use Rattle.ckpt_step.specs.Lives.{is_live, live_addrs}
-use Rattle.ckpt_step.specs.Parts.{AreOfLeaves, ArePartedBy, IsParted, links_over, part_in, part_leaves, part_of, parts_of, with_parts}
+use Rattle.ckpt_step.specs.Moments.{Moment, RowsServe, TreesServe}
+use Rattle.ckpt_step.specs.Parts.{AreOfLeaves, AreOfTables, ArePartedBy, IsParted, links_over, part_in, part_leaves, part_of, parts_of, with_parts}
 use Rattle.ckpt_step.specs.Rooms.{Written}
 use Rattle.ckpt_step.specs.declared.lives.Lone.{Lone}
 use Rattle.ckpt_step.specs.declared.parts.LeafPart.{LeafPart}
@@ -76,7 +75,7 @@ pub record LacksTree (bytes : List ℕ) (capacity : ℕ) (space : Space) (leaves
   pub lacks : LacksAll space capacity sizes
 
 -- i: the place of the table; was: where the trees of the checkpoint before stand; had: their parts, by leaf; more, more': the leaves that were written before and after
-module _ {D : Type 0} (g : Ghosts D) (old : Option Stored) (first : Books) (was : List TreePlace) (lives : List Lone) (leaves : List Leaf) (had : Written) (w : World) (t : Table) (i : ℕ) (books books' : Books) (places places' : List TreePlace) (more more' : List LeafPart) (captured captured' : List Addr) (before after : D) where
+module _ {D : Type 0} (g : Ghosts D) (old : Option Stored) (first : Books) (was : List TreePlace) (lives : List Lone) (leaves : List Leaf) (had : Written) (n : Moment) (t : Table) (i : ℕ) (books books' : Books) (places places' : List TreePlace) (more more' : List LeafPart) (captured captured' : List Addr) (before after : D) where
   -- a block is where none was, or where one of the table's was
   abbrev pub IsOwnBlock : Addr → Type 0
   IsOwnBlock a = IsPlaced books a ⊎ BeginsIn was (live_addrs lives (leaves_of t.number leaves)) i a
@@ -99,7 +98,7 @@ module _ {D : Type 0} (g : Ghosts D) (old : Option Stored) (first : Books) (was 
   -- a leaf of the table, as it is now
   pub record IsLeafNow (written : Written) (place : TreePlace) (tree : TableTree) (l : Leaf) : Type 0 where
     pub same : KeepSame (g.seen before) (links_in (part_of had l)) (links_in (part_of written l)) (part_leaves place tree (part_of written l))
-    pub shelved : IsAsItLies written l → join (part_leaves place tree (part_of written l)) ≡ w.shelf l.id
+    pub shelved : IsAsItLies written l → join (part_leaves place tree (part_of written l)) ≡ n.world.shelf l.id
 
   -- the tree of the table is captured, and its place stands behind the others
   pub record OneMore : Type 0 where
@@ -112,7 +111,7 @@ module _ {D : Type 0} (g : Ghosts D) (old : Option Stored) (first : Books) (was 
     pub own_more : List LeafPart
     pub more_are : more' ≡ more ++ own_more
     pub of_table : AreOfLeaves (leaves_of t.number leaves) own_more
-    pub rows : IsRowsOf w.machine t (tree_rows tree)
+    pub rows : RowsServe n t (tree_rows tree)
     pub parted : IsParted [] leaves t.number (with_parts had own_more) place tree
     pub each : (l : Leaf) → Contains leaves l → l.table ≡ t.number → IsLeafNow (with_parts had own_more) place tree l
     pub has : HasTree (g.seen after) place.root tree
@@ -131,7 +130,7 @@ module _ {D : Type 0} (g : Ghosts D) (old : Option Stored) (first : Books) (was 
     pub captured_are : captured' ≡ captured ++ places_of blocks
     pub captures : IsSafe e → Captures g old first blocks sizes books books' before after
     pub left : LeavesOnly g before after (IsOld (g.may_leave before) old)
-    pub lacks : e ≡ NoSpace → ((front : List Leaf) × LacksFront (g.seen before) (g.capacity before) leaves had w.machine t.number books.space front) ⊎ (IsRowsOf w.machine t rows × LacksTree (g.seen before) (g.capacity before) books.space leaves had t.number rows)
+    pub lacks : e ≡ NoSpace → ((front : List Leaf) × LacksFront (g.seen before) (g.capacity before) leaves had n t.number books.space front) ⊎ (RowsServe n t rows × LacksTree (g.seen before) (g.capacity before) books.space leaves had t.number rows)
 
   abbrev pub Goes : Result (Unit {0}) StoreError → Type 0
   Goes (Ok done) = OneMore
@@ -141,22 +140,18 @@ module _ {D : Type 0} (g : Ghosts D) (old : Option Stored) (first : Books) (was 
 abbrev pub IsFrom : Option Stored → List TreePlace → List Lone → List Leaf → List Table → ℕ → Addr → Type 0
 IsFrom old was lives leaves known count a = IsNewBlock old lives a ⊎ ((j : ℕ) × (t : Table) × (j < count) × (slice_get known j ≡ Some t) × BeginsIn was (live_addrs lives (leaves_of t.number leaves)) j a)
 
--- each leaf that is written is of one of these tables
-abbrev pub AreOfTables : List Table → List Leaf → List LeafPart → Type 0
-AreOfTables known leaves more = AllByRecursion (λ (p : LeafPart). (j : ℕ) × (t : Table) × (slice_get known j ≡ Some t) × ((l : Leaf) × Contains (leaves_of t.number leaves) l × (l.id ≡ p.leaf))) more
-
 -- The trees of the first tables are captured, as many as count says. had: what the checkpoint before has of the leaves of the directory; more: the leaves that are written now, all of these tables.
-pub record Going {D : Type 0} (g : Ghosts D) (old : Option Stored) (was : List TreePlace) (lives : List Lone) (leaves : List Leaf) (had : Written) (w : World) (known : List Table) (first books : Books) (places : List TreePlace) (more : List LeafPart) (captured : List Addr) (count : ℕ) (before after : D) : Type 0 where
+pub record Going {D : Type 0} (g : Ghosts D) (old : Option Stored) (was : List TreePlace) (lives : List Lone) (leaves : List Leaf) (had : Written) (n : Moment) (known : List Table) (first books : Books) (places : List TreePlace) (more : List LeafPart) (captured : List Addr) (count : ℕ) (before after : D) : Type 0 where
   pub trees : List TableTree
   pub many : length places ≡ count
   pub half : Half (g.seen after) (g.may_leave after) books old lives captured places trees
   pub from : (a : Addr) → Member a captured → IsFrom old was lives leaves known count a
   pub left : LeavesOnly g before after (IsOld (g.may_leave before) old)
   pub images : (c : List ℕ) → g.may_leave after c → IsOld (g.may_leave before) old c
-  pub rows : (rest : List TableTree) → AreRowsOf w.machine (drop count known) rest → AreRowsOf w.machine known (trees ++ rest)
-  pub placed : (last : Space) → PlacesTables (g.seen before) (g.capacity before) old leaves had w.machine books.space (drop count known) last → PlacesTables (g.seen before) (g.capacity before) old leaves had w.machine first.space known last
-  pub lacks : LacksTables (g.seen before) (g.capacity before) old leaves had w.machine books.space (drop count known) → LacksTables (g.seen before) (g.capacity before) old leaves had w.machine first.space known
-  pub by_leaves : ByLeaves (g.seen before) known leaves had w.shelf places trees (with_parts had more)
+  pub rows : (rest : List TableTree) → TreesServe n (drop count known) rest → TreesServe n known (trees ++ rest)
+  pub placed : (last : Space) → PlacesTables (g.seen before) (g.capacity before) old leaves had n books.space (drop count known) last → PlacesTables (g.seen before) (g.capacity before) old leaves had n first.space known last
+  pub lacks : LacksTables (g.seen before) (g.capacity before) old leaves had n books.space (drop count known) → LacksTables (g.seen before) (g.capacity before) old leaves had n first.space known
+  pub by_leaves : ByLeaves (g.seen before) known leaves had n.world.shelf places trees (with_parts had more)
   pub of_first : AreOfTables (take count known) leaves more
   pub keeps : Keeps (Has first.cells) (g.seen before) (g.seen after)
   pub used : (at n : ℕ) → Has first.cells at n → Has books.cells at n

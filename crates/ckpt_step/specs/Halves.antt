@@ -20,19 +20,19 @@ use Rattle.stored.specs.Stored.{Stored}
 use Rattle.stored.specs.TableTree.{TableTree}
 use Rattle.stored.specs.Tree.{join, tree_blocks}
 use Rattle.tree_dir.specs.declared.leaf.Leaf.{Leaf}
-use Rattle.engine_world.specs.Worlds.{World}
 use Rattle.checkpoint_core.specs.Stands.{Stands, AreInUse}
 use Rattle.checkpoint_core.specs.Finishes.{IsOld}
 use Rattle.tree_open.specs.declared.place.TreePlace.{TreePlace}
 use Rattle.hist_open.specs.Trees.{HasHistory}
-use Rattle.tree_write.specs.Captures.{IsSafe, places_of, with_addrs}
+use Rattle.tree_write.specs.Captures.{AreDistinct, IsSafe, places_of, with_addrs}
 use Rattle.tree_write.specs.Steps.{links_in}
 use Rattle.tree_write.specs.Writes.{KeepSame}
-use Rattle.ckpt_content.specs.Checkpoints.{AreRowsOf, IsHistoryOf}
 use Rattle.ckpt_step.specs.Floors.{IsAsItLies}
-use Rattle.ckpt_step.specs.Grounds.{start_cell}
+use Rattle.ckpt_step.specs.Grounds.{AreLone, start_cell}
 use Rattle.ckpt_step.specs.Sizes.{LacksBody, LacksTables, PlacesBody, PlacesTables}
-use Rattle.ckpt_step.specs.Parts.{AreOfLeaves, IsParted, part_leaves, part_of, with_parts}
+use Rattle.ckpt_step.specs.Lives.{NoneOfOthers, addrs_in, with_lives}
+use Rattle.ckpt_step.specs.Moments.{IsHistoryThen, Moment, TreesServe}
+use Rattle.ckpt_step.specs.Parts.{AreOfTables, IsParted, part_leaves, part_of, with_parts}
 use Rattle.ckpt_step.specs.Rooms.{Written}
 use Rattle.ckpt_step.specs.Trees.{AreTreesAt, addrs_of, trees_blocks}
 use Rattle.ckpt_step.specs.declared.lives.Lone.{Lone}
@@ -63,9 +63,9 @@ body_cell n = held_cell n true
 abbrev pub with_last : ℕ → Cell → Addr → Cell
 with_last u c a = if a.offset == 8192 + 4096 * u then body_cell (a.size / 4096) else c
 
--- and once the live tree has let go of those of before
-abbrev pub settled_at : List Addr → Addr → ℕ → Cell
-settled_at captured a u = if a.offset == 8192 + 4096 * u then record_cell a else fold (with_last u) nothing captured
+-- and once the live tree has let go of those of before, but of these, which were written since
+abbrev pub settled_at : List Addr → List Lone → Addr → ℕ → Cell
+settled_at captured others a u = if a.offset == 8192 + 4096 * u then record_cell a else with_lives u (fold (with_last u) nothing captured) others
 
 -- no block of the old checkpoint or written since, and none that is captured, begins where this one does
 abbrev pub IsFresh : Option Stored → List Lone → List Addr → Addr → Type 0
@@ -92,6 +92,14 @@ pub record IsOldBlock (old : Option Stored) (lives : List Lone) (a : Addr) : Typ
 
 abbrev pub AreOwn : Option Stored → List Lone → List Addr → Type 0
 AreOwn old lives captured = (a : Addr) → Member a captured → IsOldBlock old lives a ⊎ IsNewBlock old lives a
+
+-- Each of these is one that was written since, whose block is not captured, nor one of the checkpoint before at these addresses.
+pub record AreApartFrom (old : Option Stored) (lives : List Lone) (captured before : List Addr) (others : List Lone) : Type 0 where
+  pub lone : AreLone old lives
+  pub among : (x : Lone) → Member x others → Member x lives
+  pub distinct : AreDistinct (addrs_in others)
+  pub apart : (x : Lone) (a : Addr) → Member x others → Member a captured → a.offset ≡ x.addr.offset → ⊥
+  pub elsewhere : (x : Lone) (a : Addr) → Member x others → Member a before → a.offset ≡ x.addr.offset → ⊥
 
 -- the addresses are those of the checkpoint before but that of its record, and of the leaves that were written since
 pub record AreOldBlocks (old : Option Stored) (lives : List Lone) (addrs : List Addr) : Type 0 where
@@ -164,25 +172,26 @@ pub record ByLeaves (bytes : List ℕ) (known : List Table) (leaves : List Leaf)
 -- ---- writing them
 
 -- leaves: those of the directory; had: what the checkpoint before has of them; more: the leaves that are written now
-module _ {D : Type 0} (g : Ghosts D) (old : Option Stored) (lives : List Lone) (w : World) (known : List Table) (leaves : List Leaf) (had : Written) (books books' : Books) (places : List TreePlace) (more : List LeafPart) (captured : List Addr) (before after : D) where
+module _ {D : Type 0} (g : Ghosts D) (old : Option Stored) (lives : List Lone) (n : Moment) (known : List Table) (leaves : List Leaf) (had : Written) (books books' : Books) (places : List TreePlace) (more : List LeafPart) (captured : List Addr) (before after : D) where
   -- all trees are captured
   pub record AllWritten : Type 0 where
     pub trees : List TableTree
     pub half : Half (g.seen after) (g.may_leave after) books' old lives captured places trees
-    pub rows : AreRowsOf w.machine known trees
+    pub rows : TreesServe n known trees
     pub left : LeavesOnly g before after (IsOld (g.may_leave before) old)
     pub keeps : Keeps (Has books.cells) (g.seen before) (g.seen after)
     pub used : (at n : ℕ) → Has books.cells at n → Has books'.cells at n
-    pub placed : PlacesTables (g.seen before) (g.capacity before) old leaves had w.machine books.space known books'.space
-    pub by_leaves : ByLeaves (g.seen before) known leaves had w.shelf places trees (with_parts had more)
-    pub of_leaves : AreOfLeaves leaves more
+    pub placed : PlacesTables (g.seen before) (g.capacity before) old leaves had n books.space known books'.space
+    pub by_leaves : ByLeaves (g.seen before) known leaves had n.world.shelf places trees (with_parts had more)
+    pub of_tables : AreOfTables known leaves more
+    pub apart : NoneOfOthers known leaves lives captured
 
   -- some blocks are
   pub record SomeWritten (e : StoreError) : Type 0 where
     pub runs : IsSafe e → Runs (g.seen after) (g.may_leave after) books' old lives captured
     pub left : LeavesOnly g before after (IsOld (g.may_leave before) old)
     pub keeps : IsSafe e → Keeps (Has books.cells) (g.seen before) (g.seen after)
-    pub lacks : e ≡ NoSpace → LacksTables (g.seen before) (g.capacity before) old leaves had w.machine books.space known
+    pub lacks : e ≡ NoSpace → LacksTables (g.seen before) (g.capacity before) old leaves had n books.space known
 
   abbrev pub Writes : Result (Unit {0}) StoreError → Type 0
   Writes (Ok done) = AllWritten
@@ -190,27 +199,28 @@ module _ {D : Type 0} (g : Ghosts D) (old : Option Stored) (lives : List Lone) (
 
 -- ---- and then the history
 
-module _ {D : Type 0} (g : Ghosts D) (old : Option Stored) (lives : List Lone) (w : World) (known : List Table) (leaves : List Leaf) (had : Written) (books books' : Books) (places : List TreePlace) (more : List LeafPart) (captured : List Addr) (before after : D) where
+module _ {D : Type 0} (g : Ghosts D) (old : Option Stored) (lives : List Lone) (n : Moment) (known : List Table) (leaves : List Leaf) (had : Written) (books books' : Books) (places : List TreePlace) (more : List LeafPart) (captured : List Addr) (before after : D) where
   -- all trees are captured, and the history at this root, whose blocks are there
   pub record AllTaken (root : Root) (stand : List Addr) : Type 0 where
     pub trees : List TableTree
     pub history : HistoryTree
     pub body : Body (g.seen after) (g.may_leave after) books' old lives captured places trees root history stand
-    pub rows : AreRowsOf w.machine known trees
-    pub older : IsHistoryOf w.machine (join history.leaves)
+    pub rows : TreesServe n known trees
+    pub older : IsHistoryThen n (join history.leaves)
     pub left : LeavesOnly g before after (IsOld (g.may_leave before) old)
     pub keeps : Keeps (Has books.cells) (g.seen before) (g.seen after)
     pub used : (at n : ℕ) → Has books.cells at n → Has books'.cells at n
-    pub placed : PlacesBody (g.seen before) (g.capacity before) old leaves had w.machine books.space known books'.space
-    pub by_leaves : ByLeaves (g.seen before) known leaves had w.shelf places trees (with_parts had more)
-    pub of_leaves : AreOfLeaves leaves more
+    pub placed : PlacesBody (g.seen before) (g.capacity before) old leaves had n books.space known books'.space
+    pub by_leaves : ByLeaves (g.seen before) known leaves had n.world.shelf places trees (with_parts had more)
+    pub of_tables : AreOfTables known leaves more
+    pub apart : NoneOfOthers known leaves lives captured
 
   -- some blocks are
   pub record SomeTaken (e : StoreError) : Type 0 where
     pub runs : IsSafe e → Runs (g.seen after) (g.may_leave after) books' old lives captured
     pub left : LeavesOnly g before after (IsOld (g.may_leave before) old)
     pub keeps : IsSafe e → Keeps (Has books.cells) (g.seen before) (g.seen after)
-    pub lacks : e ≡ NoSpace → LacksBody (g.seen before) (g.capacity before) old leaves had w.machine books.space known
+    pub lacks : e ≡ NoSpace → LacksBody (g.seen before) (g.capacity before) old leaves had n books.space known
 
   abbrev pub TakesAll : Root → List Addr → Result (Unit {0}) StoreError → Type 0
   TakesAll root stand (Ok done) = AllTaken root stand

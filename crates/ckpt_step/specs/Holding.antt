@@ -56,6 +56,19 @@ pub record AreNewAt (lives : List Lone) (es : List Entry) : Type 0 where
   pub none : AllByRecursion (λ (e : Entry). has_at lives e.link.addr.offset ≡ false) es
   pub distinct : AreDistinct (addrs_to es)
 
+-- ---- those of some leaves
+
+-- the one that a leaf stands for
+abbrev pub lone_as : Leaf → Lone
+lone_as l = record { leaf = l.id; addr = l.entry.link.addr }
+
+-- with that of a leaf, if it is one of them
+abbrev pub with_live : List Lone → List Lone → Leaf → List Lone
+with_live lives others l = if is_live lives l then put_lone (lone_as l) others else others
+
+abbrev pub with_all_live : List Lone → List Lone → List Leaf → List Lone
+with_all_live lives others leaves = fold (with_live lives) others leaves
+
 -- ---- the block of the leaf itself
 
 -- where it stands, if the leaf is one of them

@@ -6,6 +6,8 @@ pub mod Records
 pub mod Runs
 pub mod Frees
 pub mod Trees
+pub mod Moments
+pub mod Stills
 pub mod Goings
 pub mod Keeps
 pub mod Floors

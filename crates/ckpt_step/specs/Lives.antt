@@ -1,12 +1,15 @@
 -- Leaves that were written since the last completed checkpoint.
-use Rattle.std.specs.Prelude.{◌≡◌, ℕ, ◌+◌, ◌*◌, ◌/◌, ◌==◌, Bool, false, List, [], ◌∷◌, map, filter, Option, Some, None, is_some, if◌then◌else◌}
+use Rattle.std.specs.Prelude.{◌≡◌, ℕ, ◌+◌, ◌*◌, ◌/◌, ◌==◌, Bool, true, false, List, [], ◌∷◌, map, filter, Option, Some, None, is_some, if◌then◌else◌}
 use Rattle.std.specs.List.{Contains, fold}
 use Rattle.block_mgr.specs.declared.cell.Cell.{Cell}
 use Rattle.block_mgr.specs.Cells.{fresh}
 use Rattle.device_layout.specs.declared.addr.Addr.{Addr}
+use Rattle.kv_model.specs.History.{Table}
+use Rattle.kv_model.specs.Holds.{Member}
 use Rattle.kv_model.specs.Machine.{of_some}
 use Rattle.stored.specs.Blocks.{Block}
 use Rattle.tree_dir.specs.declared.leaf.Leaf.{Leaf}
+use Rattle.tree_write.specs.Captures.{AreDistinct}
 use Rattle.ckpt_step.specs.declared.lives.Held.{Held}
 use Rattle.ckpt_step.specs.declared.lives.Lone.{Lone}
 
@@ -58,3 +61,19 @@ with_lone u c x = if x.addr.offset == 8192 + 4096 * u then fresh (x.addr.size / 
 -- and those of all
 abbrev pub with_lives : ℕ → Cell → List Lone → Cell
 with_lives u c lives = fold (with_lone u) c lives
+
+-- ---- those of other tables
+
+-- the leaf is of none of these tables
+abbrev pub IsOfOther : List Table → Leaf → Type 0
+IsOfOther known l = (t : Table) → Member t known → l.table ≡ t.number → ⊥
+
+-- those of them that are of leaves of other tables
+pub record AreOfOthers (known : List Table) (leaves : List Leaf) (lives others : List Lone) : Type 0 where
+  pub each : (x : Lone) → Member x others → Member x lives × ((l : Leaf) × Contains leaves l × (l.id ≡ x.leaf) × (l.entry.link.addr ≡ x.addr) × IsOfOther known l)
+  pub all : (l : Leaf) → Contains leaves l → IsOfOther known l → is_live lives l ≡ true → is_live others l ≡ true
+  pub distinct : AreDistinct (addrs_in lives) → AreDistinct (addrs_in others)
+
+-- no block at these addresses is that of such a leaf
+abbrev pub NoneOfOthers : List Table → List Leaf → List Lone → List Addr → Type 0
+NoneOfOthers known leaves lives captured = (l : Leaf) → Contains leaves l → is_live lives l ≡ true → IsOfOther known l → (a : Addr) → Member a captured → a.offset ≡ l.entry.link.addr.offset → ⊥

@@ -1,8 +1,9 @@
 -- What a checkpoint has of the leaves of the directory: by leaf its part of the table's tree, which is some leaves of that tree, one behind the other.
-use Rattle.std.specs.Prelude.{◌≡◌, ℕ, ◌≤◌, ◌==◌, Bool, true, false, List, [], ◌∷◌, ◌++◌, length, map, filter, not, Option, None, Some, IfSome, if◌then◌else◌}
+use Rattle.std.specs.Prelude.{◌≡◌, ℕ, ◌≤◌, ◌==◌, Bool, true, false, List, [], ◌∷◌, ◌++◌, length, map, filter, not, slice_get, Option, None, Some, IfSome, if◌then◌else◌}
 use Rattle.std.specs.List.{AllByRecursion, Contains, flat_map}
 use Rattle.std.specs.Option.{option_or}
 use Rattle.device_layout.specs.declared.link.Link.{Link}
+use Rattle.kv_model.specs.History.{Table}
 use Rattle.kv_model.specs.Holds.{Member}
 use Rattle.kv_model.specs.Machine.{of_some}
 use Rattle.leaf_rows.specs.Rows.{AreFit}
@@ -56,6 +57,10 @@ HaveRoom rooms more = AllByRecursion (λ (p : LeafPart). has_room rooms p.leaf �
 -- each of them is of one of these leaves
 abbrev pub AreOfLeaves : List Leaf → List LeafPart → Type 0
 AreOfLeaves leaves more = AllByRecursion (λ (p : LeafPart). (l : Leaf) × Contains leaves l × (l.id ≡ p.leaf)) more
+
+-- each leaf that is written is of one of these tables
+abbrev pub AreOfTables : List Table → List Leaf → List LeafPart → Type 0
+AreOfTables known leaves more = AllByRecursion (λ (p : LeafPart). (j : ℕ) × (t : Table) × (slice_get known j ≡ Some t) × ((l : Leaf) × Contains (leaves_of t.number leaves) l × (l.id ≡ p.leaf))) more
 
 -- ---- their rows
 

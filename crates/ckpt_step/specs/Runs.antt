@@ -15,25 +15,26 @@ use Rattle.wt_code.specs.declared.store_error.StoreError.TheVariants.{NoSpace, D
 use Rattle.wt_code.specs.StoreErrors.{refusal_of}
 use Rattle.stamp.specs.declared.Name.{Name}
 use Rattle.kv_model.specs.History.{Table}
-use Rattle.kv_model.specs.Machine.{Machine}
+use Rattle.kv_model.specs.Machine.{Checkpoint, Machine}
 use Rattle.stored.specs.HistoryTree.{HistoryTree}
 use Rattle.stored.specs.Records.{Record, IsRecord, Root, record_image}
 use Rattle.stored.specs.Stored.{Stored, IsOn}
 use Rattle.stored.specs.TableTree.{TableTree}
 use Rattle.checkpoint_core.specs.Stands.{AreInUse}
-use Rattle.checkpoint_core.specs.Finishes.{IsOld, IsEither}
+use Rattle.checkpoint_core.specs.Finishes.{IsOld, IsEither, KeepsParts}
 use Rattle.tree_open.specs.declared.place.TreePlace.{TreePlace}
 use Rattle.recover_open.specs.Bare.{stored_with}
 use Rattle.tree_write.specs.Captures.{IsSafe, places_of}
 use Rattle.engine_world.specs.Stands.{Engine}
 use Rattle.engine_world.specs.Systems.{with_fault}
-use Rattle.ckpt_content.specs.Checkpoints.{IsCheckpointOf, IsRecordOf}
+use Rattle.ckpt_content.specs.Finished.{IsFinishOf, IsRecordThen, tables_then}
 use Rattle.ckpt_step.specs.Floors.{AreLivesOn, Follows, FollowsFrom, Respects}
-use Rattle.ckpt_step.specs.Parts.{AreOfLeaves, with_parts}
+use Rattle.ckpt_step.specs.Lives.{AreOfOthers, NoneOfOthers}
+use Rattle.ckpt_step.specs.Moments.{CapturesBefore, Moment}
+use Rattle.ckpt_step.specs.Parts.{AreOfTables, with_parts}
 use Rattle.ckpt_step.specs.Rooms.{Written, known_in}
 use Rattle.tree_dir.specs.declared.leaf.Leaf.{Leaf}
 use Rattle.call_steps.specs.declared.hub.Hub.{Hub}
-use Rattle.engine_world.specs.Worlds.{World}
 use Rattle.ckpt_step.specs.declared.lives.Lone.{Lone}
 use Rattle.ckpt_step.specs.declared.parts.LeafPart.{LeafPart}
 use Rattle.ckpt_step.specs.Grounds.{StandsOn, number_of}
@@ -43,11 +44,11 @@ use Rattle.ckpt_step.specs.Sizes.{HasPlaces, HasRoomFor, IsFullFor, KeepsLeaves,
 use Rattle.ckpt_step.specs.Trees.{AreTreesAt, addrs_of, roots_of}
 use Rattle.ckpt_step.specs.declared.ground.Ground.{Ground}
 
--- the image of the record of a checkpoint of the machine with the trees at these places, and the history at this root
-pub record IsImageOf (m : Machine) (number : ℕ) (known : List Table) (places : List TreePlace) (root : Root) (image : List ℕ) : Type 0 where
+-- the image of the record of the checkpoint that the machine runs with the trees at these places, and the history at this root
+pub record IsImageOf (m : Machine) (c : Checkpoint) (number : ℕ) (known : List Table) (places : List TreePlace) (root : Root) (image : List ℕ) : Type 0 where
   pub r : Record
   pub admitted : IsRecord r
-  pub is : IsRecordOf m number r
+  pub is : IsRecordThen m c number r
   pub history : r.history ≡ root
   pub tables : r.tables ≡ roots_by_name known (roots_of places)
   pub spelled : image ≡ record_image r
@@ -75,60 +76,63 @@ pub record IsDone (seen : List ℕ) (books : Books) (old : Option Stored) (lives
   pub idle : books.is_held ≡ false
   pub within : end_of books.space ≤ length seen
 
-module _ {D : Type 0} (g : Ghosts D) (old : Option Stored) (m : Machine) (before after : D) where
+module _ {D : Type 0} (g : Ghosts D) (old : Option Stored) (n : Moment) (before after : D) where
   -- a crash leaves the checkpoint before, or at a fault of the gate the new one
   abbrev pub LeavesOne : Type 0
-  LeavesOne = LeavesOnly g before after (IsOld (g.may_leave before) old) ⊎ ((new : Stored) × IsCheckpointOf m (number_of old) new × LeavesOnly g before after (IsEither (g.may_leave before) old new))
+  LeavesOne = LeavesOnly g before after (IsOld (g.may_leave before) old) ⊎ ((new : Stored) × IsFinishOf n.world.machine n.checkpoint (number_of old) new × LeavesOnly g before after (IsEither (g.may_leave before) old new))
 
 -- had: what the checkpoint before has of the leaves of the directory; more: the leaves that are written now
-module _ {D : Type 0} (g : Ghosts D) (old : Option Stored) (lives : List Lone) (w : World) (known : List Table) (leaves : List Leaf) (had : Written) (books books' : Books) (places : List TreePlace) (stand : List Addr) (more : List LeafPart) (captured : List Addr) (before after : D) where
+module _ {D : Type 0} (g : Ghosts D) (old : Option Stored) (lives : List Lone) (n : Moment) (known : List Table) (leaves : List Leaf) (had : Written) (books books' : Books) (places : List TreePlace) (stand : List Addr) (more : List LeafPart) (captured : List Addr) (before after : D) where
   -- all blocks are written, and the record is installed
   pub record AllPut (a : Addr) : Type 0 where
     pub r : Record
     pub trees : List TableTree
     pub history : HistoryTree
-    pub is : IsCheckpointOf w.machine (number_of old) (made_of r known trees history a)
+    pub is : IsFinishOf n.world.machine n.checkpoint (number_of old) (made_of r known trees history a)
     pub left : LeavesOnly g before after (IsEither (g.may_leave before) old (made_of r known trees history a))
     pub each : Each (g.may_leave after) (λ c. IsOn c (made_of r known trees history a))
-    pub placed : HasPlaces (g.seen before) (g.capacity before) old leaves had w.machine books.space known
-    pub by_leaves : ByLeaves (g.seen before) known leaves had w.shelf places trees (with_parts had more)
-    pub of_leaves : AreOfLeaves leaves more
+    pub placed : HasPlaces (g.seen before) (g.capacity before) old leaves had n books.space known
+    pub by_leaves : ByLeaves (g.seen before) known leaves had n.world.shelf places trees (with_parts had more)
+    pub of_tables : AreOfTables known leaves more
+    pub apart : NoneOfOthers known leaves lives captured
+    pub keeps : KeepsParts (Has books.cells) (g.seen before) (g.seen after)
     pub done : IsDone (g.seen after) books' old lives known places trees history stand captured r a
-    pub follows : (floor : Name) → Respects w.machine floor → FollowsFrom (Some (made_of r known trees history a)) known [] leaves (with_parts had more) places floor w
+    pub follows : (floor : Name) → Respects n.world.machine floor → CapturesBefore n.world.machine n.checkpoint floor → FollowsFrom (Some (made_of r known trees history a)) known [] leaves (with_parts had more) places floor n.world
 
   -- they are not
   pub record SomePut (e : StoreError) : Type 0 where
-    pub left : LeavesOne g old w.machine before after
+    pub left : LeavesOne g old n before after
     pub kept : IsSafe e → LeavesOnly g before after (IsOld (g.may_leave before) old)
     pub keeps : IsSafe e → Keeps (Has books.cells) (g.seen before) (g.seen after)
     pub runs : IsSafe e → Runs (g.seen after) (g.may_leave after) books' old lives captured
-    pub lacks : e ≡ NoSpace → LacksPlace (g.seen before) (g.capacity before) old leaves had w.machine books.space known
+    pub lacks : e ≡ NoSpace → LacksPlace (g.seen before) (g.capacity before) old leaves had n books.space known
 
   abbrev pub Puts : Result Addr StoreError → Type 0
   Puts (Ok a) = AllPut a
   Puts (Err e) = SomePut e
 
-module _ {D : Type 0} (g : Ghosts D) (old : Option Stored) (w : World) (hub : Hub) (stand stand' : Ground) (before after : D) where
+module _ {D : Type 0} (g : Ghosts D) (old : Option Stored) (n : Moment) (hub : Hub) (stand stand' : Ground) (before after : D) where
   -- the new checkpoint stands
   pub record NewStands : Type 0 where
     pub new : Stored
-    pub is : IsCheckpointOf w.machine (number_of old) new
+    pub is : IsFinishOf n.world.machine n.checkpoint (number_of old) new
     pub left : LeavesOnly g before after (IsEither (g.may_leave before) old new)
     pub each : Each (g.may_leave after) (λ c. IsOn c new)
     pub on : StandsOn (g.seen after) (g.may_leave after) hub stand' (Some new)
-    pub follows : Follows (Some new) hub stand' w
-    pub none : stand'.lives ≡ []
-    pub had_room : HasRoomFor (g.seen before) (g.capacity before) stand.lives hub.dir.leaves (known_in stand.parts) w.machine
+    pub follows : Follows (Some new) hub stand' n.world
+    pub since : AreLivesOn (g.seen after) hub stand' n.world
+    pub others : AreOfOthers (tables_then n.world.machine n.checkpoint) hub.dir.leaves stand.lives stand'.lives
+    pub had_room : HasRoomFor (g.seen before) (g.capacity before) stand.lives hub.dir.leaves (known_in stand.parts) n
     pub kept : KeepsLeaves (g.seen before) hub.tables.tables hub.dir.leaves (known_in stand.parts) new stand'.trees.items (known_in stand'.parts)
 
   -- the one before does
   pub record OldStands (e : StoreError) : Type 0 where
-    pub left : LeavesOne g old w.machine before after
+    pub left : LeavesOne g old n before after
     pub kept : IsSafe e → LeavesOnly g before after (IsOld (g.may_leave before) old)
     pub on : IsSafe e → StandsOn (g.seen after) (g.may_leave after) hub stand' old
-    pub follows : Follows old hub stand' w
-    pub since : IsSafe e → AreLivesOn (g.seen after) hub stand' w
-    pub full : e ≡ NoSpace → IsFullFor (g.seen before) (g.capacity before) stand.lives hub.dir.leaves (known_in stand.parts) w.machine
+    pub follows : Follows old hub stand' n.world
+    pub since : IsSafe e → AreLivesOn (g.seen after) hub stand' n.world
+    pub full : e ≡ NoSpace → IsFullFor (g.seen before) (g.capacity before) stand.lives hub.dir.leaves (known_in stand.parts) n
 
   abbrev pub Wrote : Result (Unit {0}) StoreError → Type 0
   Wrote (Ok done) = NewStands

@@ -9,7 +9,7 @@ ghost use Rattle.tree_write.specs.Drafts.{addrs_to};
 ghost use Rattle.ckpt_step.specs.CutOuts.{LetGo};
 ghost use Rattle.ckpt_step.specs.Frees.{without, without_all, without_new, without_news};
 ghost use Rattle.ckpt_step.specs.Grounds.{AreLone, start_cell};
-ghost use Rattle.ckpt_step.specs.Halves.{AreOldBlocks, AreOwn, IsFresh, done_at, half_cell, settled_at};
+ghost use Rattle.ckpt_step.specs.Halves.{AreApartFrom, AreOldBlocks, AreOwn, IsFresh, done_at, half_cell, settled_at};
 ghost use Rattle.ckpt_step.specs.Lives.{addrs_in};
 ghost use Rattle.ckpt_step.specs.Trees.{addrs_of, kept_by, left_by};
 
@@ -35,16 +35,17 @@ pub(crate) fn give_up(blocks: &mut Blocks, captured: &[Addr], lives: &Lives)
 }
 
 // The live tree lets go of the blocks of before that are not in the last checkpoint: of the trees that
-// do not stay where they are, of the history, and of the leaves that were written since, of which none
-// are left. `O(n)` in these blocks.
+// do not stay where they are, of the history, and of the leaves that were written since but these
+// others, which are all that is left of them. `O(n log m)` in these blocks and others.
 pub(crate) fn let_go(
     blocks: &mut Blocks,
     was: &[TreePlace],
     told: &[Option<TreePlace>],
     history: &[Addr],
     lives: &mut Lives,
+    others: &Lives,
 )
-    ensures cells { (old : Option Stored) (captured : List AnAddr) (a : AnAddr) → AreOldBlocks old lives.old (addrs_of was.now ++ (history.now ++ addrs_in lives.old)) → ((x : AnAddr) → Member x (addrs_of (kept_by was.now told.now)) → Member x captured) → AreOwn old lives.old captured → IsFresh old lives.old captured a → ((u : ℕ) → cell_at blocks.old.cells u ≡ done_at old lives.old captured a u) → (u : ℕ) → cell_at blocks.new.cells u ≡ settled_at captured a u }
+    ensures cells { (old : Option Stored) (captured : List AnAddr) (a : AnAddr) → AreOldBlocks old lives.old (addrs_of was.now ++ (history.now ++ addrs_in lives.old)) → ((x : AnAddr) → Member x (addrs_of (kept_by was.now told.now)) → Member x captured) → AreOwn old lives.old captured → IsFresh old lives.old captured a → AreApartFrom old lives.old captured (addrs_of was.now ++ history.now) others.now → ((u : ℕ) → cell_at blocks.old.cells u ≡ done_at old lives.old captured a u) → (u : ℕ) → cell_at blocks.new.cells u ≡ settled_at captured others.now a u }
     ensures none { lives.new ≡ [] }
     ensures end { end_of blocks.new.space ≡ end_of blocks.old.space }
     ensures units { AreUnits blocks.old.cells blocks.old.space → AreUnits blocks.new.cells blocks.new.space }
@@ -53,7 +54,7 @@ pub(crate) fn let_go(
 {
     let_go_trees(blocks, was, told);
     let_go_unless_last(blocks, history);
-    let_go_lives(blocks, lives);
+    let_go_lives(blocks, lives, others);
 }
 
 // Of the trees, by what the cells are made of.
@@ -71,9 +72,9 @@ fn let_go_trees(blocks: &mut Blocks, trees: &[TreePlace], told: &[Option<TreePla
     }
 }
 
-// Of the leaves that were written since.
-fn let_go_lives(blocks: &mut Blocks, lives: &mut Lives)
-    ensures cells { (u : ℕ) → cell_at blocks.new.cells u ≡ without_all u (cell_at blocks.old.cells u) (addrs_in lives.old) }
+// Of the leaves that were written since, but these others.
+fn let_go_lives(blocks: &mut Blocks, lives: &mut Lives, others: &Lives)
+    ensures cells { (u : ℕ) → cell_at blocks.new.cells u ≡ without_news others.now u (cell_at blocks.old.cells u) (addrs_in lives.old) }
     ensures none { lives.new ≡ [] }
     ensures end { end_of blocks.new.space ≡ end_of blocks.old.space }
     ensures units { AreUnits blocks.old.cells blocks.old.space → AreUnits blocks.new.cells blocks.new.space }
@@ -81,7 +82,7 @@ fn let_go_lives(blocks: &mut Blocks, lives: &mut Lives)
     ensures held { blocks.new.is_held ≡ blocks.old.is_held }
 {
     while let Some(lone) = lives.pop() {
-        let_go_of(blocks, lone.addr);
+        let_go_if_new(blocks, lone.addr, others);
     }
 }
 

@@ -2,8 +2,8 @@
 ghost use Rattle.std.specs.Prelude.{◌≡◌, ℕ, List, Option, Some, length, option_map, slice_get, true, false, IfNone, IfSome, IsTrue, MatchOption};
 ghost use Rattle.std.specs.List.{Contains};
 ghost use Rattle.kv_model.specs.History.{Table};
+ghost use Rattle.kv_model.specs.Holds.{Member};
 ghost use Rattle.leaf_rows.specs.Rows.{AreFit};
-ghost use Rattle.snapshot.specs.Matters.{NoneResolves, SeesCommitted};
 ghost use Rattle.snapshot.specs.Past.{is_below as is_below_of};
 ghost use Rattle.snapshot.specs.Sight.{IsSight, Sight};
 ghost use Rattle.stamp.specs.declared.Name.{Name as AName};
@@ -16,20 +16,20 @@ ghost use Rattle.tree_write.specs.Writes.{LeadApart};
 ghost use Rattle.checkpoint_core.specs.Stands.{HasStill};
 ghost use Rattle.ckpt_step.specs.Trees.{leaves_at};
 ghost use Rattle.leaf_frame.specs.Updates.{NoneAbove};
-ghost use Rattle.engine_world.specs.Stands.{Stands};
-ghost use Rattle.engine_world.specs.Worlds.{World};
-ghost use Rattle.ckpt_step.specs.Floors.{FollowsFrom, IsStill};
+ghost use Rattle.ckpt_content.specs.Finished.{tables_then};
+ghost use Rattle.ckpt_step.specs.Floors.{FollowsFrom};
 ghost use Rattle.ckpt_step.specs.Rooms.{known_in};
 ghost use Rattle.ckpt_step.specs.Goings.{HasPartsAt};
 ghost use Rattle.ckpt_step.specs.Lives.{is_live};
+ghost use Rattle.ckpt_step.specs.Moments.{IsMoment, Moment};
 ghost use Rattle.ckpt_step.specs.Parts.{AreBelowFloor, own_part, part_in};
+ghost use Rattle.ckpt_step.specs.Stills.{IsStill};
 ghost use Rattle.ckpt_step.specs.Steps.{IsKept, IsLoaded, IsStepOf, IsUnloaded};
 
 use crate::before::Before;
 use crate::parts::Parts;
 use block_mgr::Blocks;
 use engine::Local;
-use frame_capture::captures_are_newest;
 use inner_page::Entry;
 use leaf_frame::LeafFrame;
 use snapshot::Snapshot;
@@ -65,10 +65,9 @@ pub(crate) fn floor_of(snapshot: &Snapshot) -> Name
 // kept, and none was written since. `O(n log m)` in the leaves of the table and those written.
 pub(crate) fn clean_tree<'a>(engine: &Local, place: u32, was: Before<'a>) -> Option<&'a TreePlace>
     ensures at { IfSome result (λ p. slice_get was.entry.trees.now place ≡ Some p.now) }
-    ensures still { (w : World) (s : Sight) → Stands engine.now w → NoneResolves w.machine → SeesCommitted w.machine (length w.machine.history) s → (t : Table) → slice_get engine.now.hub.tables.tables place ≡ Some t
-        → (old : Option Stored) (bytes : List ℕ) → HasStill old bytes → LeadApart (leaves_at was.entry.trees.now place) → HasPartsAt old was.entry.lives.now engine.now.hub.dir.leaves (known_in was.entry.parts.now) was.entry.trees.now t place → FollowsFrom old engine.now.hub.tables.tables was.entry.lives.now engine.now.hub.dir.leaves (known_in was.entry.parts.now) was.entry.trees.now was.entry.floor w → IfSome result (λ p. IsStill old was.entry.lives.now engine.now.hub.dir.leaves (known_in was.entry.parts.now) w.machine t p.now) }
+    ensures still { (n : Moment) (s : Sight) → IsMoment engine.now s was.entry.floor n → (t : Table) → slice_get engine.now.hub.tables.tables place ≡ Some t → Member t (tables_then n.world.machine n.checkpoint)
+        → (old : Option Stored) (bytes : List ℕ) → HasStill old bytes → LeadApart (leaves_at was.entry.trees.now place) → HasPartsAt old was.entry.lives.now engine.now.hub.dir.leaves (known_in was.entry.parts.now) was.entry.trees.now t place → FollowsFrom old engine.now.hub.tables.tables was.entry.lives.now engine.now.hub.dir.leaves (known_in was.entry.parts.now) was.entry.trees.now was.entry.floor n.world → IfSome result (λ p. IsStill old was.entry.lives.now engine.now.hub.dir.leaves (known_in was.entry.parts.now) n t p.now) }
 {
-    captures_are_newest();
     let tree = was.trees.get(place as usize)?;
     let table = engine.tables().table(place)?;
     if keeps_all(engine, table.number, was) {

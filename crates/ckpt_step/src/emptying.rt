@@ -1,9 +1,10 @@
 // A leaf without keys that leaves its frame.
-ghost use Rattle.std.specs.Prelude.{◌≡◌, ◌≢◌, ℕ, List, [], None, Some, false, length, slice_get, IfOk, IfSome, IsTrue, OnErr};
+ghost use Rattle.std.specs.Prelude.{◌≡◌, ◌≢◌, ℕ, List, [], Option, None, Some, false, length, slice_get, IfOk, IfSome, IsTrue, OnErr};
 ghost use Rattle.kv_model.specs.History.{Table};
 ghost use Rattle.reconcile.specs.declared.image.Moved.{Moved as AMoved};
 ghost use Rattle.tree_dir.specs.Leaves.{leaf_named};
 ghost use Rattle.tree_dir.specs.declared.leaf.Leaf.{Leaf as ALeaf};
+ghost use Rattle.engine.specs.declared.running_checkpoint.RunningCheckpoint.{RunningCheckpoint as ARunning};
 ghost use Rattle.evict_step.specs.Cuts.{AreCut};
 ghost use Rattle.ckpt_step.specs.EvictSteps.{HasLeftEmpty, IsRowless};
 ghost use Rattle.ckpt_step.specs.Lives.{is_live};
@@ -26,12 +27,13 @@ pub(crate) fn leave_empty(
     engine: &mut Local,
     leaf: u64,
 ) -> Result<bool, NoMemory>
-    requires cut { (moved : List AMoved) × AreCut engine.old leaf [] moved }
+    requires cut { (running : Option ARunning) × (moved : List AMoved) × AreCut engine.old running leaf [] moved }
     ensures left { IfOk result (λ left. IsTrue left → HasLeftEmpty engine.old engine.new ground.old ground.new leaf) }
     ensures not { IfOk result (λ left. left ≡ false → (engine.new ≡ engine.old) × (ground.new ≡ ground.old)) }
     ensures kept { OnErr result ((engine.new ≡ engine.old) × (ground.new ≡ ground.old)) }
     ensures number { ground.new.number ≡ ground.old.number }
     ensures trees { ground.new.trees ≡ ground.old.trees }
+    ensures floor { ground.new.floor ≡ ground.old.floor }
     ensures stood { ground.new.history ≡ ground.old.history }
     ensures sessions { length engine.new.sessions ≡ length engine.old.sessions }
     ensures hub { (engine.new.hub.tables ≡ engine.old.hub.tables) × (engine.new.hub.txns ≡ engine.old.hub.txns) }

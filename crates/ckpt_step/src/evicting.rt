@@ -1,5 +1,5 @@
 // A leaf that is evicted to a block of its own, or to several, while others are at work.
-ghost use Rattle.std.specs.Prelude.{◌≡◌, List, Option, Some, None, Err, length, IfErr, IfOk, OnErr, OnOk, IsTrue};
+ghost use Rattle.std.specs.Prelude.{◌≡◌, List, Option, Some, None, Err, length, IfErr, IfOk, OnErr, OnOk, IsTrue, option_copied};
 ghost use Rattle.failure.specs.Counts.{Rose};
 ghost use Rattle.failure.specs.declared.Fault.{Fault as AFault};
 ghost use Rattle.wt_code.specs.StoreErrors.{IsOfDisk};
@@ -9,6 +9,7 @@ ghost use Rattle.stored.specs.Stored.{Stored};
 ghost use Rattle.engine_world.specs.Stands.{Stands};
 ghost use Rattle.engine_world.specs.Worlds.{World};
 ghost use Rattle.engine.specs.Evictions.{HasBeenEvicted};
+ghost use Rattle.engine.specs.Running.{RunsAs};
 ghost use Rattle.reconcile.specs.declared.image.Moved.{Moved as AMoved};
 ghost use Rattle.evict_step.specs.Cuts.{AreCut};
 ghost use Rattle.evict_step.specs.Kept.{KeepsThese};
@@ -26,7 +27,7 @@ use crate::parting::part_out;
 use crate::writing::is_within;
 use crate::writing_out::tell;
 use disk_model::Disk;
-use engine::{Local, Stays};
+use engine::{Local, RunningCheckpoint, Stays};
 use evict_step::{CutOut, cut_out};
 use failure::NoMemory;
 use item::Item;
@@ -54,13 +55,14 @@ pub enum Evicted {
     Empty,
 }
 
-/// Evicts a leaf to a block of its own, whoever is at work: the newest version of each of its keys is
-/// written as one block that the live tree alone has, and the leaf leaves its frame and leads to it.
-/// Older versions that somebody may still want are kept in memory (`ground.kept`) until the leaf comes
-/// back (`bring_back` of `evict_step`), and a checkpoint writes them in its history. Where the leaf needs
-/// more than one block it parts: leaves of these blocks take its place, and are in no frame, and of each
-/// are kept the older versions of the keys that lie in it. The next checkpoint keeps the blocks as they
-/// stand. Where the leaf was written since the last one before, its former block is free again.
+/// Evicts a leaf to a block of its own, whoever is at work, beside the checkpoint that runs, or none: the
+/// newest version of each of its keys is written as one block that the live tree alone has, and the leaf
+/// leaves its frame and leads to it. Older versions that somebody may still want are kept in memory
+/// (`ground.kept`) until the leaf comes back (`bring_back` of `evict_step`), and a checkpoint writes them in
+/// its history. Where the leaf needs more than one block it parts: leaves of these blocks take its place,
+/// and are in no frame, and of each are kept the older versions of the keys that lie in it. The next
+/// checkpoint keeps the blocks as they stand. Where the leaf was written since the last one before, its
+/// former block is free again.
 ///
 /// Where the leaf holds no key it leaves its frame without a block, if the last checkpoint has its table
 /// and no rows of it.
@@ -79,15 +81,17 @@ pub fn evict<D: Disk>(
     disk: &mut D,
     ground: &mut Ground,
     engine: &mut Local,
+    running: Option<&RunningCheckpoint>,
     leaf: u64,
 ) -> Result<Evicted, Refusal>
-    ensures evicts { IsTrue (D.honest disk.old) → (w : World) → Stands engine.old w → w.machine.checkpoint ≡ None → (old : Option Stored) → StandsOn (D.seen disk.old) (D.may_leave disk.old) engine.old.hub ground.old old
+    ensures evicts { IsTrue (D.honest disk.old) → (w : World) → Stands engine.old w → RunsAs w.machine (option_copied running.entry) → (old : Option Stored) → StandsOn (D.seen disk.old) (D.may_leave disk.old) engine.old.hub ground.old old
         → Follows old engine.old.hub ground.old w → AreLivesOn (D.seen disk.old) engine.old.hub ground.old w → Evicts D.Disk old w ground.old ground.new engine.old engine.new leaf disk.old disk.new result }
     ensures down { (fault : AFault) → engine.old.hub.fault ≡ Some fault → (result ≡ Err (Refusal.Panic fault)) × (engine.new ≡ engine.old) × (ground.new ≡ ground.old) × (disk.new ≡ disk.old) }
     ensures refusals { IfErr result IsOfCheckpoint }
     ensures fault { IfErr result (λ r. r ≡ Refusal.DiskFault → Rose (D.faults disk.old) (D.faults disk.new)) }
     ensures number { ground.new.number ≡ ground.old.number }
     ensures trees { ground.new.trees ≡ ground.old.trees }
+    ensures floor { ground.new.floor ≡ ground.old.floor }
     ensures stood { ground.new.history ≡ ground.old.history }
     ensures sessions { length engine.new.sessions ≡ length engine.old.sessions }
     ensures hub { (engine.new.hub.tables ≡ engine.old.hub.tables) × (engine.new.hub.txns ≡ engine.old.hub.txns) }
@@ -98,7 +102,7 @@ pub fn evict<D: Disk>(
     if let Some(fault) = engine.fault() {
         return Err(Refusal::Panic { fault });
     }
-    let Ok(cut) = cut_out(alloc, engine, leaf) else {
+    let Ok(cut) = cut_out(alloc, engine, running, leaf) else {
         return Err(Refusal::NoMemory);
     };
     let made = match cut {
@@ -114,9 +118,18 @@ pub fn evict<D: Disk>(
         }
     }
     if made.images.len() == 1 {
-        return evict_whole(alloc, disk, ground, engine, leaf, made);
+        return evict_whole(alloc, disk, ground, engine, running, leaf, made);
     }
-    part_out(alloc, disk, ground, engine, leaf, made.images, made.moved)
+    part_out(
+        alloc,
+        disk,
+        ground,
+        engine,
+        running,
+        leaf,
+        made.images,
+        made.moved,
+    )
 }
 
 // Evicts a leaf that needs one block. What moves is kept before the device is touched, so that want of
@@ -126,17 +139,19 @@ fn evict_whole<D: Disk>(
     disk: &mut D,
     ground: &mut Ground,
     engine: &mut Local,
+    running: Option<&RunningCheckpoint>,
     leaf: u64,
     made: Made,
 ) -> Result<Evicted, Refusal>
-    requires cut { AreCut engine.old leaf made.images.items made.moved.items }
+    requires cut { AreCut engine.old (option_copied running) leaf made.images.items made.moved.items }
     requires one { length made.images.items ≡ 1 }
-    ensures evicts { IsTrue (D.honest disk.old) → (w : World) → Stands engine.old w → w.machine.checkpoint ≡ None → (old : Option Stored) → StandsOn (D.seen disk.old) (D.may_leave disk.old) engine.old.hub ground.old old
+    ensures evicts { IsTrue (D.honest disk.old) → (w : World) → Stands engine.old w → RunsAs w.machine (option_copied running.entry) → (old : Option Stored) → StandsOn (D.seen disk.old) (D.may_leave disk.old) engine.old.hub ground.old old
         → Follows old engine.old.hub ground.old w → AreLivesOn (D.seen disk.old) engine.old.hub ground.old w → Evicts D.Disk old w ground.old ground.new engine.old engine.new leaf disk.old disk.new result }
     ensures refusals { IfErr result IsOfCheckpoint }
     ensures fault { IfErr result (λ r. r ≡ Refusal.DiskFault → Rose (D.faults disk.old) (D.faults disk.new)) }
     ensures number { ground.new.number ≡ ground.old.number }
     ensures trees { ground.new.trees ≡ ground.old.trees }
+    ensures floor { ground.new.floor ≡ ground.old.floor }
     ensures stood { ground.new.history ≡ ground.old.history }
     ensures sessions { length engine.new.sessions ≡ length engine.old.sessions }
     ensures hub { (engine.new.hub.tables ≡ engine.old.hub.tables) × (engine.new.hub.txns ≡ engine.old.hub.txns) }
@@ -147,7 +162,7 @@ fn evict_whole<D: Disk>(
     let Ok(()) = ground.kept.keep(alloc, leaf, made.moved) else {
         return Err(Refusal::NoMemory);
     };
-    match put_back(alloc, disk, ground, engine, leaf, &made.images) {
+    match put_back(alloc, disk, ground, engine, running, leaf, &made.images) {
         Ok(()) => Ok(Evicted::Done),
         Err(error) => {
             ground.kept.forget(leaf);
@@ -163,18 +178,20 @@ fn put_back<D: Disk>(
     disk: &mut D,
     ground: &mut Ground,
     engine: &mut Local,
+    running: Option<&RunningCheckpoint>,
     leaf: u64,
     images: &[Image],
 ) -> Result<(), StoreError>
-    requires cut { (moved : List AMoved) × AreCut engine.old leaf images.now moved }
+    requires cut { (moved : List AMoved) × AreCut engine.old (option_copied running) leaf images.now moved }
     requires one { length images.now ≡ 1 }
-    ensures puts { IsTrue (D.honest disk.old) → (moved : List AMoved) → AreCut engine.old leaf images.now moved → (w : World) → Stands engine.old w → w.machine.checkpoint ≡ None → (old : Option Stored) → StandsOn (D.seen disk.old) (D.may_leave disk.old) engine.old.hub ground.old old
+    ensures puts { IsTrue (D.honest disk.old) → (moved : List AMoved) → AreCut engine.old (option_copied running.entry) leaf images.now moved → (w : World) → Stands engine.old w → RunsAs w.machine (option_copied running.entry) → (old : Option Stored) → StandsOn (D.seen disk.old) (D.may_leave disk.old) engine.old.hub ground.old old
         → Follows old engine.old.hub ground.old w → AreLivesOn (D.seen disk.old) engine.old.hub ground.old w → PutsBack D.Disk old w ground.old ground.new engine.old engine.new leaf disk.old disk.new moved result }
     ensures out { OnOk result ((link : ALink) × HasBeenEvicted engine.old engine.new leaf link) }
     ensures kept { OnErr result (engine.new ≡ engine.old) }
     ensures history { ground.new.kept ≡ ground.old.kept }
     ensures number { ground.new.number ≡ ground.old.number }
     ensures trees { ground.new.trees ≡ ground.old.trees }
+    ensures floor { ground.new.floor ≡ ground.old.floor }
     ensures stood { ground.new.history ≡ ground.old.history }
     ensures sessions { length engine.new.sessions ≡ length engine.old.sessions }
     ensures hub { (engine.new.hub.tables ≡ engine.old.hub.tables) × (engine.new.hub.txns ≡ engine.old.hub.txns) }

@@ -8,12 +8,12 @@ ghost use Rattle.device_layout.specs.declared.addr.Addr.{Addr as AnAddr};
 ghost use Rattle.extent_list.specs.Space.{end_of};
 ghost use Rattle.block_mgr.specs.Blocks.{Books};
 ghost use Rattle.kv_model.specs.History.{Table};
+ghost use Rattle.kv_model.specs.Holds.{Member};
 ghost use Rattle.kv_model.specs.Machine.{of_some};
 ghost use Rattle.row_page.specs.Rows.{Row, is_below, key_most};
 ghost use Rattle.reconcile.specs.Capture.{ChainsFit};
 ghost use Rattle.leaf_rows.specs.Rows.{AreFit};
 ghost use Rattle.reconcile.specs.Images.{AreImages};
-ghost use Rattle.snapshot.specs.Matters.{NoneResolves, SeesCommitted};
 ghost use Rattle.stored.specs.Links.{LinkFits};
 ghost use Rattle.stored.specs.Stored.{Stored};
 ghost use Rattle.stored.specs.TableTree.{Climbs, Entry as StoredEntry, EntryFits, first_key};
@@ -23,14 +23,14 @@ ghost use Rattle.wt_code.specs.declared.store_error.StoreError.TheVariants.{NoMe
 ghost use Rattle.tree_write.specs.Drafts.{AreBelow, AreFrom, addrs_to};
 ghost use Rattle.tree_write.specs.Keeps.{AreLive, KeepsAll};
 ghost use Rattle.tree_write.specs.Steps.{links_in};
-ghost use Rattle.engine_world.specs.Stands.{Stands};
-ghost use Rattle.engine_world.specs.Worlds.{World};
+ghost use Rattle.ckpt_content.specs.Finished.{tables_then};
 ghost use Rattle.frame_capture.specs.Capture.{IsCaptured};
 ghost use Rattle.ckpt_step.specs.Drafting.{Drafting, Drafts, WritesLeaf};
 ghost use Rattle.ckpt_step.specs.Floors.{AreOnDevice, FollowsFrom};
 ghost use Rattle.ckpt_step.specs.Rooms.{known_in};
 ghost use Rattle.ckpt_step.specs.Goings.{HasPartsAt, MayGo};
 ghost use Rattle.ckpt_step.specs.Lives.{live_addrs};
+ghost use Rattle.ckpt_step.specs.Moments.{IsMoment, Moment};
 ghost use Rattle.ckpt_step.specs.declared.parts.LeafPart.{LeafPart as APart};
 
 use crate::before::Before;
@@ -43,7 +43,7 @@ use device_layout::Link;
 use disk_model::Disk;
 use engine::Local;
 use failure::NoMemory;
-use frame_capture::{captured_rows_are_newest, captures_are_newest, reconciled_rows_are_captured};
+use frame_capture::reconciled_rows_are_captured;
 use inner_page::Entry;
 use item::Item;
 use leaf_frame::LeafFrame;
@@ -71,10 +71,10 @@ pub(crate) fn take_leaves<D: Disk>(
     requires held { blocks.old.is_held ≡ true }
     requires empty { draft.old ≡ [] }
     requires ready { IsTrue (D.honest disk.old) → end_of blocks.old.space ≤ length (D.seen disk.old) }
-    ensures drafts { IsTrue (D.honest disk.old) → (w : World) → Stands engine.now w → NoneResolves w.machine → SeesCommitted w.machine (length w.machine.history) snapshot.now.sight → (i : ℕ) (t : Table) → slice_get engine.now.hub.tables.tables i ≡ Some t → t.number ≡ table
+    ensures drafts { IsTrue (D.honest disk.old) → (n : Moment) → IsMoment engine.now snapshot.now.sight was.entry.floor n → (i : ℕ) (t : Table) → slice_get engine.now.hub.tables.tables i ≡ Some t → t.number ≡ table → Member t (tables_then n.world.machine n.checkpoint)
         → (old : Option Stored) (first : Books) → MayGo (D.seen disk.old) (D.may_leave disk.old) first blocks.old old was.entry.trees.now (live_addrs was.entry.lives.now (leaves_of t.number engine.now.hub.dir.leaves)) i → HasPartsAt old was.entry.lives.now engine.now.hub.dir.leaves (known_in was.entry.parts.now) was.entry.trees.now t i
-        → FollowsFrom old engine.now.hub.tables.tables was.entry.lives.now engine.now.hub.dir.leaves (known_in was.entry.parts.now) was.entry.trees.now was.entry.floor w → AreOnDevice (D.seen disk.old) was.entry.lives.now engine.now.hub.dir.leaves w.shelf
-        → Drafts D.Disk old first engine.now.hub.dir.leaves (known_in was.entry.parts.now) w table blocks.old blocks.new taken.old.parts.items taken.new.parts.items taken.old.captured.items taken.new.captured.items disk.old disk.new (leaves_of table engine.now.hub.dir.leaves) draft.new result }
+        → FollowsFrom old engine.now.hub.tables.tables was.entry.lives.now engine.now.hub.dir.leaves (known_in was.entry.parts.now) was.entry.trees.now was.entry.floor n.world → AreOnDevice (D.seen disk.old) was.entry.lives.now engine.now.hub.dir.leaves n.world.shelf
+        → Drafts D.Disk old first engine.now.hub.dir.leaves (known_in was.entry.parts.now) n table blocks.old blocks.new taken.old.parts.items taken.new.parts.items taken.old.captured.items taken.new.captured.items disk.old disk.new (leaves_of table engine.now.hub.dir.leaves) draft.new result }
     ensures trees { taken.new.trees ≡ taken.old.trees }
     ensures ready { IsTrue (D.honest disk.old) → OnOk result (end_of blocks.new.space ≤ length (D.seen disk.new)) }
     ensures held { blocks.new.is_held ≡ true }
@@ -106,19 +106,17 @@ fn take_leaf<D: Disk>(
     requires held { blocks.old.is_held ≡ true }
     requires there { Contains engine.now.hub.dir.leaves leaf.now }
     requires ready { IsTrue (D.honest disk.old) → end_of blocks.old.space ≤ length (D.seen disk.old) }
-    ensures drafts { IsTrue (D.honest disk.old) → (w : World) → Stands engine.now w → NoneResolves w.machine → SeesCommitted w.machine (length w.machine.history) snapshot.now.sight → (i : ℕ) (t : Table) → slice_get engine.now.hub.tables.tables i ≡ Some t → leaf.now.table ≡ t.number
+    ensures drafts { IsTrue (D.honest disk.old) → (n : Moment) → IsMoment engine.now snapshot.now.sight was.entry.floor n → (i : ℕ) (t : Table) → slice_get engine.now.hub.tables.tables i ≡ Some t → leaf.now.table ≡ t.number → Member t (tables_then n.world.machine n.checkpoint)
         → (old : Option Stored) (first books : Books) (before : D) (more : List APart) (captured : List AnAddr) (front rest : List ALeaf) → MayGo (D.seen before) (D.may_leave before) first books old was.entry.trees.now (live_addrs was.entry.lives.now (leaves_of t.number engine.now.hub.dir.leaves)) i → HasPartsAt old was.entry.lives.now engine.now.hub.dir.leaves (known_in was.entry.parts.now) was.entry.trees.now t i
-        → FollowsFrom old engine.now.hub.tables.tables was.entry.lives.now engine.now.hub.dir.leaves (known_in was.entry.parts.now) was.entry.trees.now was.entry.floor w → AreOnDevice (D.seen before) was.entry.lives.now engine.now.hub.dir.leaves w.shelf → leaves_of t.number engine.now.hub.dir.leaves ≡ front ++ leaf.now ∷ rest
-        → Drafting D.Disk old first engine.now.hub.dir.leaves (known_in was.entry.parts.now) w t.number books blocks.old more taken.old.parts.items captured taken.old.captured.items before disk.old front draft.old
-        → Drafts D.Disk old first engine.now.hub.dir.leaves (known_in was.entry.parts.now) w t.number books blocks.new more taken.new.parts.items captured taken.new.captured.items before disk.new (front ++ leaf.now ∷ []) draft.new result }
+        → FollowsFrom old engine.now.hub.tables.tables was.entry.lives.now engine.now.hub.dir.leaves (known_in was.entry.parts.now) was.entry.trees.now was.entry.floor n.world → AreOnDevice (D.seen before) was.entry.lives.now engine.now.hub.dir.leaves n.world.shelf → leaves_of t.number engine.now.hub.dir.leaves ≡ front ++ leaf.now ∷ rest
+        → Drafting D.Disk old first engine.now.hub.dir.leaves (known_in was.entry.parts.now) n t.number books blocks.old more taken.old.parts.items captured taken.old.captured.items before disk.old front draft.old
+        → Drafts D.Disk old first engine.now.hub.dir.leaves (known_in was.entry.parts.now) n t.number books blocks.new more taken.new.parts.items captured taken.new.captured.items before disk.new (front ++ leaf.now ∷ []) draft.new result }
     ensures trees { taken.new.trees ≡ taken.old.trees }
     ensures ready { IsTrue (D.honest disk.old) → OnOk result (end_of blocks.new.space ≤ length (D.seen disk.new)) }
     ensures held { blocks.new.is_held ≡ true }
     ensures fault { IfErr result (λ e. IsOfDisk e → Rose (D.faults disk.old) (D.faults disk.new)) }
     ensures disk { SameDisk D.Disk disk.old disk.new }
 {
-    captured_rows_are_newest();
-    captures_are_newest();
     match step_of(engine, leaf, was) {
         LeafStep::Keep(part) => {
             if are_live(blocks, part) {

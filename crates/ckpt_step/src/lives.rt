@@ -1,5 +1,5 @@
 // Leaves that were written since the last completed checkpoint.
-ghost use Rattle.std.specs.Prelude.{◌≡◌, ◌∷◌, [], IfNone, IfSome, OnErr, OnOk};
+ghost use Rattle.std.specs.Prelude.{◌≡◌, ◌∷◌, [], false, IfNone, IfSome, IsTrue, OnErr, OnOk};
 ghost use Rattle.ckpt_step.specs.Lives.{has_at, is_live, is_of, lone_at};
 ghost use Rattle.ckpt_step.specs.Holding.{gone_at, named_at, put_lone};
 
@@ -61,6 +61,14 @@ impl Lives {
         ensures { result ≡ is_live self.now leaf.now }
     {
         self.has(leaf.entry.link.addr.offset, leaf.id)
+    }
+
+    // Whether there is none.
+    pub(crate) fn is_empty(&self) -> bool
+        ensures yes { IsTrue result → self.now ≡ [] }
+        ensures no { result ≡ false → self.now ≡ [] → ⊥ }
+    {
+        self.by_offset.is_empty()
     }
 
     // Whether one of this id stands at an offset.

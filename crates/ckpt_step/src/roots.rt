@@ -1,12 +1,13 @@
 // What leads to the trees of the tables, by name.
-ghost use Rattle.std.specs.Prelude.{◌≡◌, ◌≤◌, ◌++◌, ◌∷◌, [], Some, None, slice_get, slice_index_or, IfOk, OnOk, IfSome, IfNone};
+ghost use Rattle.std.specs.Prelude.{◌≡◌, ◌≤◌, ◌++◌, ◌∷◌, [], Some, None, slice_get, slice_index_or, take, IfOk, OnOk};
 ghost use Rattle.std.specs.List.{AllByRecursion};
 ghost use Rattle.le_codec.specs.Fields.{IsBytes};
 ghost use Rattle.stored.specs.Links.{LinkFits, nowhere};
 ghost use Rattle.stored.specs.Records.{RootFits};
-ghost use Rattle.catalog.specs.Known.{AreTables, by_name};
+ghost use Rattle.kv_model.specs.History.{Table as ATable};
+ghost use Rattle.catalog.specs.Known.{AreTables};
 ghost use Rattle.device_leaf.specs.NoHistory.{no_root as the_no_root};
-ghost use Rattle.ckpt_step.specs.Records.{IsTyped, of_number, roots_by_name};
+ghost use Rattle.ckpt_step.specs.Records.{IsTyped, roots_by_name};
 ghost use Rattle.ckpt_step.specs.Trees.{AreTold, placed_by, roots_of as roots_in, table_root};
 
 use catalog::{Catalog, Table};
@@ -35,46 +36,51 @@ pub(crate) fn no_root() -> Root
     }
 }
 
-// The tables of a record, in the order of their names. The trees are those of the catalog's tables,
-// by place; where none is told, it stands where it did before. The error is want of memory. `O(n)` in
-// the tables, and one allocation; the names are lent.
+// The tables of a record, in the order of their names: the first ones of the catalog. The trees are
+// those of these tables, by place; where none is told, it stands where it did before. The error is want
+// of memory. `O(n)` in the tables, and one allocation; the names are lent.
 pub(crate) fn roots_of<'a>(
     alloc: Global,
     tables: &'a Catalog,
+    first: u32,
     was: &[TreePlace],
     told: &[Option<TreePlace>],
 ) -> Result<Vec<LentRoot<'a>>, NoMemory>
     requires known { AreTables tables.now }
     requires told { AreTold was.now told.now }
-    ensures roots { IfOk result (λ roots. roots.items ≡ roots_by_name tables.now.tables (roots_in (placed_by was.now told.now))) }
+    ensures roots { IfOk result (λ roots. roots.items ≡ roots_by_name (take first tables.now.tables) (roots_in (placed_by was.now told.now))) }
     ensures typed { IfOk result (λ roots. AllByRecursion IsTyped roots.items) }
 {
     let mut roots = Vec::with_capacity(alloc, tables.len())?;
     let mut i = 0;
-    while let Some(entry) = entry_at(tables, was, told, i) {
-        push_root(&mut roots, entry)?;
+    while let Some(place) = tables.place_at(i) {
+        if place < first {
+            push_table(&mut roots, tables, was, told, place)?;
+        }
         i += 1;
     }
     Ok(roots)
 }
 
-// The i-th table in the order of names, with its tree.
-fn entry_at<'a>(
+// Puts the table at a place, with its tree, behind the others.
+fn push_table<'a>(
+    roots: &mut Vec<LentRoot<'a>>,
     tables: &'a Catalog,
     was: &[TreePlace],
     told: &[Option<TreePlace>],
-    i: u32,
-) -> Option<LentRoot<'a>>
+    place: u32,
+) -> Result<(), NoMemory>
     requires known { AreTables tables.now }
     requires told { AreTold was.now told.now }
-    ensures table { IfSome result (λ e. slice_get (by_name tables.now.tables) i ≡ Some e.table) }
-    ensures root { IfSome result (λ e. e.root ≡ of_number the_no_root tables.now.tables (roots_in (placed_by was.now told.now)) e.table.number) }
-    ensures typed { IfSome result IsTyped }
-    ensures none { IfNone result (slice_get (by_name tables.now.tables) i ≡ None) }
+    requires typed { AllByRecursion IsTyped roots.old.items }
+    ensures some { OnOk result ((t : ATable) → slice_get tables.now.tables place ≡ Some t → roots.new.items ≡ roots.old.items ++ table_root t (slice_index_or (roots_in (placed_by was.now told.now)) place the_no_root) ∷ []) }
+    ensures none { OnOk result (slice_get tables.now.tables place ≡ None → roots.new.items ≡ roots.old.items) }
+    ensures typed { OnOk result (AllByRecursion IsTyped roots.new.items) }
 {
-    let place = tables.place_at(i)?;
-    let table = tables.table(place)?;
-    Some(root_of(table, root_at(was, told, place as usize)))
+    match tables.table(place) {
+        Some(table) => push_root(roots, root_of(table, root_at(was, told, place as usize))),
+        None => Ok(()),
+    }
 }
 
 // The root of a place, that of a tree of no rows where there is none.

@@ -1,6 +1,7 @@
 // What a running checkpoint has.
 ghost use Rattle.std.specs.Prelude.{◌≡◌, []};
 
+use crate::lives::Lives;
 use crate::parts::LeafPart;
 use crate::roots::no_root;
 use device_layout::Addr;
@@ -18,6 +19,8 @@ pub(crate) struct Taken {
     pub parts: Vec<LeafPart>,
     // Where the history stands; nowhere, as long as it is not written.
     pub history: HistoryPlace,
+    // The leaves of other tables that were written since the checkpoint before.
+    pub others: Lives,
     // Where the blocks stand that are captured, in turn: also those of a tree that is not whole.
     pub captured: Vec<Addr>,
 }
@@ -36,6 +39,7 @@ impl Taken {
                 root: no_root(),
                 addrs: Vec::new(alloc),
             },
+            others: Lives::new(alloc),
             captured: Vec::new(alloc),
         }
     }

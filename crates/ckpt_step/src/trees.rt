@@ -1,5 +1,5 @@
 // The trees of a checkpoint, as they are written and captured.
-ghost use Rattle.std.specs.Prelude.{◌≡◌, ◌≤◌, ◌+◌, ◌++◌, ◌∷◌, List, Option, None, Some, [], length, map, true, slice_get, IfErr, IfOk, OnErr, OnOk, IsTrue};
+ghost use Rattle.std.specs.Prelude.{◌≡◌, ◌≤◌, ◌+◌, ◌++◌, ◌∷◌, List, Option, None, Some, [], length, map, take, true, slice_get, IfErr, IfOk, OnErr, OnOk, IsTrue};
 ghost use Rattle.std.specs.List.{AllByRecursion};
 ghost use Rattle.failure.specs.Counts.{Rose};
 ghost use Rattle.wt_code.specs.StoreErrors.{IsOfDisk};
@@ -7,15 +7,14 @@ ghost use Rattle.wt_code.specs.declared.store_error.StoreError.TheVariants.{NoMe
 ghost use Rattle.disk_model.specs.Crash.{SameDisk};
 ghost use Rattle.extent_list.specs.Space.{end_of};
 ghost use Rattle.kv_model.specs.History.{Table};
+ghost use Rattle.kv_model.specs.Holds.{Member};
 ghost use Rattle.row_page.specs.Rows.{Row};
 ghost use Rattle.reconcile.specs.Capture.{ChainsFit};
 ghost use Rattle.reconcile.specs.Images.{AreImages};
-ghost use Rattle.snapshot.specs.Matters.{NoneResolves, SeesCommitted};
 ghost use Rattle.stored.specs.Stored.{Stored};
 ghost use Rattle.stored.specs.TableTree.{Climbs, Entry as StoredEntry, EntryFits, first_key};
 ghost use Rattle.tree_dir.specs.Leaves.{leaves_of};
-ghost use Rattle.engine_world.specs.Stands.{Stands};
-ghost use Rattle.engine_world.specs.Worlds.{World};
+ghost use Rattle.ckpt_content.specs.Finished.{tables_then};
 ghost use Rattle.frame_capture.specs.Capture.{IsCaptured};
 ghost use Rattle.block_mgr.specs.Blocks.{Books};
 ghost use Rattle.tree_write.specs.Keeps.{AreLive, KeepsAll};
@@ -25,6 +24,7 @@ ghost use Rattle.ckpt_step.specs.Goings.{Goes, HasPartsAt, MayGo};
 ghost use Rattle.ckpt_step.specs.Grounds.{AreRoots, AreSince, AreWritten};
 ghost use Rattle.ckpt_step.specs.Halves.{Half, Writes};
 ghost use Rattle.ckpt_step.specs.Lives.{live_addrs};
+ghost use Rattle.ckpt_step.specs.Moments.{IsMoment, Moment};
 ghost use Rattle.ckpt_step.specs.Trees.{AreLow, AreTold, placed_by};
 
 use crate::before::Before;
@@ -40,12 +40,12 @@ use tree_open::TreePlace;
 use tree_write::{TreeDraft, keep_tree, may_keep};
 use wt_code::StoreError;
 
-// Writes and captures the tree of each table, by place: `was` tells what the checkpoint before has, and
-// `taken`, which is empty, gets the new ones, each leaf that is written, and each block that is
-// captured; after an error it has the first of them. A clean tree is captured as it stands; of any
-// other table each leaf that is clean, or in no frame, keeps its entries, the rows of any other are cut
-// into images once, of which one that is the same at the same place in the leaf keeps its block, and
-// the inner pages are written.
+// Writes and captures the tree of each of the first tables, by place: `was` tells what the checkpoint
+// before has, and `taken`, which is empty, gets the new ones, each leaf that is written, and each block
+// that is captured; after an error it has the first of them. A clean tree is captured as it stands; of
+// any other table each leaf that is clean, or in no frame, keeps its entries, the rows of any other are
+// cut into images once, of which one that is the same at the same place in the leaf keeps its block,
+// and the inner pages are written.
 pub(crate) fn write_trees<D: Disk>(
     alloc: Global,
     disk: &mut D,
@@ -53,6 +53,7 @@ pub(crate) fn write_trees<D: Disk>(
     was: Before<'_>,
     engine: &Local,
     snapshot: &Snapshot,
+    tables: u32,
     taken: &mut Taken,
 ) -> Result<(), StoreError>
     requires held { blocks.old.is_held ≡ true }
@@ -61,19 +62,18 @@ pub(crate) fn write_trees<D: Disk>(
     requires unlisted { taken.old.captured.items ≡ [] }
     requires low { AreLow was.trees.now }
     requires ready { IsTrue (D.honest disk.old) → end_of blocks.old.space ≤ length (D.seen disk.old) }
-    ensures writes { IsTrue (D.honest disk.old) → (w : World) → Stands engine.now w → NoneResolves w.machine → SeesCommitted w.machine (length w.machine.history) snapshot.now.sight → (old : Option Stored)
+    ensures writes { IsTrue (D.honest disk.old) → (n : Moment) → IsMoment engine.now snapshot.now.sight was.entry.floor n → tables ≡ length (tables_then n.world.machine n.checkpoint) → (old : Option Stored)
         → Half (D.seen disk.old) (D.may_leave disk.old) blocks.old old was.entry.lives.now [] [] [] → AreRoots engine.now.hub.tables.tables was.entry.lives.now engine.now.hub.dir.leaves (known_in was.entry.parts.now) was.entry.trees.now old → AreWritten engine.now.hub.tables.tables was.entry.lives.now engine.now.hub.dir (known_in was.entry.parts.now) was.entry.trees.now → AreSince old was.entry.lives.now engine.now.hub.dir (known_in was.entry.parts.now)
-        → FollowsFrom old engine.now.hub.tables.tables was.entry.lives.now engine.now.hub.dir.leaves (known_in was.entry.parts.now) was.entry.trees.now was.entry.floor w → AreOnDevice (D.seen disk.old) was.entry.lives.now engine.now.hub.dir.leaves w.shelf
-        → Writes D.Disk old was.entry.lives.now w engine.now.hub.tables.tables engine.now.hub.dir.leaves (known_in was.entry.parts.now) blocks.old blocks.new (placed_by was.entry.trees.now taken.new.trees.items) taken.new.parts.items taken.new.captured.items disk.old disk.new result }
+        → FollowsFrom old engine.now.hub.tables.tables was.entry.lives.now engine.now.hub.dir.leaves (known_in was.entry.parts.now) was.entry.trees.now was.entry.floor n.world → AreOnDevice (D.seen disk.old) was.entry.lives.now engine.now.hub.dir.leaves n.world.shelf
+        → Writes D.Disk old was.entry.lives.now n (take tables engine.now.hub.tables.tables) engine.now.hub.dir.leaves (known_in was.entry.parts.now) blocks.old blocks.new (placed_by was.entry.trees.now taken.new.trees.items) taken.new.parts.items taken.new.captured.items disk.old disk.new result }
     ensures ready { IsTrue (D.honest disk.old) → OnOk result (end_of blocks.new.space ≤ length (D.seen disk.new)) }
-    ensures count { OnOk result (length taken.new.trees.items ≡ length engine.now.hub.tables.tables) }
+    ensures count { OnOk result (length taken.new.trees.items ≡ tables) }
     ensures told { OnOk result (AreTold was.entry.trees.now taken.new.trees.items) }
     ensures held { blocks.new.is_held ≡ true }
     ensures fault { IfErr result (λ e. IsOfDisk e → Rose (D.faults disk.old) (D.faults disk.new)) }
     ensures disk { SameDisk D.Disk disk.old disk.new }
 {
-    let count = engine.tables().len() as u32;
-    for place in 0..count {
+    for place in 0..tables {
         take_table(alloc, disk, blocks, was, engine, snapshot, place, taken)?;
     }
     Ok(())
@@ -96,10 +96,10 @@ fn take_table<D: Disk>(
     requires told { AreTold was.trees.now taken.old.trees.items }
     requires placed { length taken.old.trees.items ≡ place }
     requires ready { IsTrue (D.honest disk.old) → end_of blocks.old.space ≤ length (D.seen disk.old) }
-    ensures goes { IsTrue (D.honest disk.old) → (w : World) → Stands engine.now w → NoneResolves w.machine → SeesCommitted w.machine (length w.machine.history) snapshot.now.sight → (t : Table) → slice_get engine.now.hub.tables.tables place ≡ Some t
+    ensures goes { IsTrue (D.honest disk.old) → (n : Moment) → IsMoment engine.now snapshot.now.sight was.entry.floor n → (t : Table) → slice_get engine.now.hub.tables.tables place ≡ Some t → Member t (tables_then n.world.machine n.checkpoint)
         → (old : Option Stored) (first : Books) → MayGo (D.seen disk.old) (D.may_leave disk.old) first blocks.old old was.entry.trees.now (live_addrs was.entry.lives.now (leaves_of t.number engine.now.hub.dir.leaves)) place → HasPartsAt old was.entry.lives.now engine.now.hub.dir.leaves (known_in was.entry.parts.now) was.entry.trees.now t place
-        → FollowsFrom old engine.now.hub.tables.tables was.entry.lives.now engine.now.hub.dir.leaves (known_in was.entry.parts.now) was.entry.trees.now was.entry.floor w → AreOnDevice (D.seen disk.old) was.entry.lives.now engine.now.hub.dir.leaves w.shelf
-        → Goes D.Disk old first was.entry.trees.now was.entry.lives.now engine.now.hub.dir.leaves (known_in was.entry.parts.now) w t place blocks.old blocks.new (placed_by was.entry.trees.now taken.old.trees.items) (placed_by was.entry.trees.now taken.new.trees.items) taken.old.parts.items taken.new.parts.items taken.old.captured.items taken.new.captured.items disk.old disk.new result }
+        → FollowsFrom old engine.now.hub.tables.tables was.entry.lives.now engine.now.hub.dir.leaves (known_in was.entry.parts.now) was.entry.trees.now was.entry.floor n.world → AreOnDevice (D.seen disk.old) was.entry.lives.now engine.now.hub.dir.leaves n.world.shelf
+        → Goes D.Disk old first was.entry.trees.now was.entry.lives.now engine.now.hub.dir.leaves (known_in was.entry.parts.now) n t place blocks.old blocks.new (placed_by was.entry.trees.now taken.old.trees.items) (placed_by was.entry.trees.now taken.new.trees.items) taken.old.parts.items taken.new.parts.items taken.old.captured.items taken.new.captured.items disk.old disk.new result }
     ensures count { OnOk result (length taken.new.trees.items ≡ length taken.old.trees.items + 1) }
     ensures told { OnOk result (AreTold was.entry.trees.now taken.new.trees.items) }
     ensures ready { IsTrue (D.honest disk.old) → OnOk result (end_of blocks.new.space ≤ length (D.seen disk.new)) }
@@ -155,10 +155,10 @@ fn write_table<D: Disk>(
     requires held { blocks.old.is_held ≡ true }
     requires told { AreTold was.trees.now taken.old.trees.items }
     requires ready { IsTrue (D.honest disk.old) → end_of blocks.old.space ≤ length (D.seen disk.old) }
-    ensures goes { IsTrue (D.honest disk.old) → (w : World) → Stands engine.now w → NoneResolves w.machine → SeesCommitted w.machine (length w.machine.history) snapshot.now.sight → (t : Table) → slice_get engine.now.hub.tables.tables place ≡ Some t
+    ensures goes { IsTrue (D.honest disk.old) → (n : Moment) → IsMoment engine.now snapshot.now.sight was.entry.floor n → (t : Table) → slice_get engine.now.hub.tables.tables place ≡ Some t → Member t (tables_then n.world.machine n.checkpoint)
         → (old : Option Stored) (first : Books) → MayGo (D.seen disk.old) (D.may_leave disk.old) first blocks.old old was.entry.trees.now (live_addrs was.entry.lives.now (leaves_of t.number engine.now.hub.dir.leaves)) place → HasPartsAt old was.entry.lives.now engine.now.hub.dir.leaves (known_in was.entry.parts.now) was.entry.trees.now t place
-        → FollowsFrom old engine.now.hub.tables.tables was.entry.lives.now engine.now.hub.dir.leaves (known_in was.entry.parts.now) was.entry.trees.now was.entry.floor w → AreOnDevice (D.seen disk.old) was.entry.lives.now engine.now.hub.dir.leaves w.shelf
-        → Goes D.Disk old first was.entry.trees.now was.entry.lives.now engine.now.hub.dir.leaves (known_in was.entry.parts.now) w t place blocks.old blocks.new (placed_by was.entry.trees.now taken.old.trees.items) (placed_by was.entry.trees.now taken.new.trees.items) taken.old.parts.items taken.new.parts.items taken.old.captured.items taken.new.captured.items disk.old disk.new result }
+        → FollowsFrom old engine.now.hub.tables.tables was.entry.lives.now engine.now.hub.dir.leaves (known_in was.entry.parts.now) was.entry.trees.now was.entry.floor n.world → AreOnDevice (D.seen disk.old) was.entry.lives.now engine.now.hub.dir.leaves n.world.shelf
+        → Goes D.Disk old first was.entry.trees.now was.entry.lives.now engine.now.hub.dir.leaves (known_in was.entry.parts.now) n t place blocks.old blocks.new (placed_by was.entry.trees.now taken.old.trees.items) (placed_by was.entry.trees.now taken.new.trees.items) taken.old.parts.items taken.new.parts.items taken.old.captured.items taken.new.captured.items disk.old disk.new result }
     ensures count { OnOk result (length taken.new.trees.items ≡ length taken.old.trees.items + 1) }
     ensures told { OnOk result (AreTold was.entry.trees.now taken.new.trees.items) }
     ensures ready { IsTrue (D.honest disk.old) → OnOk result (end_of blocks.new.space ≤ length (D.seen disk.new)) }

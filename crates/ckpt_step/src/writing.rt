@@ -1,5 +1,5 @@
 // How a checkpoint is written and installed.
-ghost use Rattle.std.specs.Prelude.{◌≡◌, ◌≤◌, ◌<◌, ◌+◌, ◌-◌, ◌^◌, ◌++◌, ◌∷◌, List, Option, Some, length, slice_set, [], true, false, ℕ, vec_capacity, IfErr, IfOk, OnErr, OnOk, IsTrue};
+ghost use Rattle.std.specs.Prelude.{◌≡◌, ◌≤◌, ◌<◌, ◌+◌, ◌-◌, ◌^◌, ◌++◌, ◌∷◌, List, Option, Some, length, slice_get, slice_set, take, [], true, false, ℕ, vec_capacity, IfErr, IfOk, OnErr, OnOk, IsTrue};
 ghost use Rattle.failure.specs.Counts.{Rose};
 ghost use Rattle.wt_code.specs.StoreErrors.{IsOfDisk};
 ghost use Rattle.disk_model.specs.Crash.{Looked, SameDisk};
@@ -7,23 +7,26 @@ ghost use Rattle.extent_list.specs.Space.{end_of};
 ghost use Rattle.block_mgr.specs.Cells.{AreUnits, cell_at};
 ghost use Rattle.device_layout.specs.declared.addr.Addr.{Addr as AnAddr};
 ghost use Rattle.device_layout.specs.Slots.{slot_at};
-ghost use Rattle.snapshot.specs.Matters.{NoneResolves, SeesCommitted};
 ghost use Rattle.snapshot.specs.Sight.{sight_at};
 ghost use Rattle.txn_table.specs.Tabled.{unended};
+ghost use Rattle.stamp.specs.declared.Name.{Name as AName};
+ghost use Rattle.kv_model.specs.History.{Table as ATable};
 ghost use Rattle.kv_model.specs.Holds.{Member};
 ghost use Rattle.stored.specs.HistoryTree.{HistoryRecord as StoredRecord};
 ghost use Rattle.stored.specs.Stored.{Stored};
 ghost use Rattle.hist_write.specs.Writes.{AreWritable};
-ghost use Rattle.ckpt_content.specs.Checkpoints.{IsHistoryOf};
+ghost use Rattle.tree_dir.specs.Leaves.{leaves_of as leaves_in};
 ghost use Rattle.engine_world.specs.Stands.{Stands};
 ghost use Rattle.engine_world.specs.Worlds.{World};
-ghost use Rattle.ckpt_step.specs.Floors.{AreLivesOn, AreOnDevice, Follows, FollowsFrom};
+ghost use Rattle.ckpt_step.specs.Floors.{AreLivesOn, AreOnDevice, Follows, FollowsFrom, Respects};
 ghost use Rattle.evict_step.specs.Kept.{KeepsThese};
-ghost use Rattle.ckpt_step.specs.Grounds.{AreRoots, AreSince, AreWritten, StandsOn, number_of};
-ghost use Rattle.ckpt_step.specs.Halves.{AreOldBlocks, AreOwn, Half, IsFresh, TakesAll, done_at, settled_at};
-ghost use Rattle.ckpt_step.specs.Lives.{addrs_in};
+ghost use Rattle.ckpt_step.specs.Grounds.{AreLedTo, AreRoots, AreSince, AreWritten, StandsOn, number_of};
+ghost use Rattle.ckpt_step.specs.Halves.{AreApartFrom, AreOldBlocks, AreOwn, Half, IsFresh, TakesAll, done_at, settled_at};
+ghost use Rattle.ckpt_step.specs.Holding.{with_all_live, with_live};
+ghost use Rattle.ckpt_step.specs.Lives.{AreOfOthers, addrs_in};
+ghost use Rattle.ckpt_step.specs.Moments.{IsFinishing, IsHistoryThen, Moment, floor_at};
 ghost use Rattle.ckpt_step.specs.Parts.{HaveRoom, with_parts};
-ghost use Rattle.ckpt_step.specs.Rooms.{known_in};
+ghost use Rattle.ckpt_step.specs.Rooms.{Written, known_in};
 ghost use Rattle.ckpt_step.specs.Runs.{IsImageOf, Puts, Wrote};
 ghost use Rattle.ckpt_step.specs.Trees.{AreKept, AreLow, AreTold, addrs_of, kept_by, placed_by};
 
@@ -31,6 +34,7 @@ use crate::before::Before;
 use crate::books::{give_up, let_go};
 use crate::clean::floor_of;
 use crate::ground::Ground;
+use crate::lives::Lives;
 use crate::parts::{LeafPart, Parts};
 use crate::record::record_of;
 use crate::taken::Taken;
@@ -38,10 +42,10 @@ use crate::trees::write_trees;
 use block_mgr::Blocks;
 use checkpoint_core::finish;
 use checkpoint_record::encode;
-use ckpt_content::written_histories_serve;
+use ckpt_content::rows_taken_before_serve;
 use device_layout::{Addr, Slot};
 use disk_model::Disk;
-use engine::Local;
+use engine::{Local, RunningCheckpoint};
 use evict_step::Kept;
 use failure::NoMemory;
 use hist_gather::gather;
@@ -50,6 +54,7 @@ use hist_write::write_history;
 use snapshot::Snapshot;
 use stamp::Name;
 use std::alloc::Global;
+use tree_dir::Leaf;
 use tree_open::TreePlace;
 use wt_code::StoreError;
 
@@ -61,16 +66,19 @@ pub(crate) fn write<D: Disk>(
     ground: &mut Ground,
     engine: &Local,
     snapshot: &Snapshot,
+    running: &RunningCheckpoint,
 ) -> Result<(), StoreError>
     requires number { ground.old.number < 2 ^ 62 - 1 }
     requires run { engine.now.hub.txns.run ≤ ground.old.number + 1 }
     requires sight { snapshot.now.sight ≡ sight_at engine.now.hub.txns.run engine.now.hub.txns.next (unended engine.now.hub.txns) }
-    requires trees { length ground.old.trees.items ≤ length engine.now.hub.tables.tables }
+    requires trees { length ground.old.trees.items ≤ running.now.tables }
+    requires tables { running.now.tables ≤ length engine.now.hub.tables.tables }
     requires low { AreLow ground.old.trees.items }
-    ensures wrote { IsTrue (D.honest disk.old) → (w : World) → Stands engine.now w → NoneResolves w.machine → SeesCommitted w.machine (length w.machine.history) snapshot.now.sight → KeepsThese w ground.old.kept → w.machine.checkpoint ≡ None → (old : Option Stored)
-        → StandsOn (D.seen disk.old) (D.may_leave disk.old) engine.now.hub ground.old old → Follows old engine.now.hub ground.old w → AreLivesOn (D.seen disk.old) engine.now.hub ground.old w
-        → Wrote D.Disk old w engine.now.hub ground.old ground.new disk.old disk.new result }
+    ensures wrote { IsTrue (D.honest disk.old) → (n : Moment) → IsFinishing engine.now running.now ground.old.floor n → Respects n.world.machine (floor_at running.now.snapshot.sight) → KeepsThese n.world ground.old.kept → (old : Option Stored)
+        → StandsOn (D.seen disk.old) (D.may_leave disk.old) engine.now.hub ground.old old → Follows old engine.now.hub ground.old n.world → AreLivesOn (D.seen disk.old) engine.now.hub ground.old n.world
+        → Wrote D.Disk old n engine.now.hub ground.old ground.new disk.old disk.new result }
     ensures number { ground.old.number ≤ ground.new.number }
+    ensures same { OnErr result ((ground.new.number ≡ ground.old.number) × (ground.new.floor ≡ ground.old.floor)) }
     ensures trees { length ground.new.trees.items ≤ length engine.now.hub.tables.tables }
     ensures low { AreLow ground.new.trees.items }
     ensures lives { OnErr result (ground.new.lives ≡ ground.old.lives) }
@@ -86,9 +94,10 @@ pub(crate) fn write<D: Disk>(
     }
     begin(&mut ground.place.blocks);
     let mut taken = Taken::new(alloc);
-    match write_blocks(alloc, disk, ground, engine, snapshot, &mut taken) {
+    match write_blocks(alloc, disk, ground, engine, snapshot, running, &mut taken) {
         Ok(addr) => {
-            settle(ground, taken, addr, floor_of(snapshot));
+            let floor = next_floor(ground.floor, running, &taken.others);
+            settle(ground, taken, addr, floor);
             Ok(())
         }
         Err(error) => {
@@ -133,6 +142,7 @@ fn write_blocks<D: Disk>(
     ground: &mut Ground,
     engine: &Local,
     snapshot: &Snapshot,
+    running: &RunningCheckpoint,
     taken: &mut Taken,
 ) -> Result<Addr, StoreError>
     requires number { ground.old.number < 2 ^ 62 - 1 }
@@ -144,11 +154,12 @@ fn write_blocks<D: Disk>(
     requires unwritten { taken.old.parts.items ≡ [] }
     requires unlisted { taken.old.captured.items ≡ [] }
     requires ready { IsTrue (D.honest disk.old) → end_of ground.old.place.blocks.space ≤ length (D.seen disk.old) }
-    ensures puts { IsTrue (D.honest disk.old) → (w : World) → Stands engine.now w → NoneResolves w.machine → SeesCommitted w.machine (length w.machine.history) snapshot.now.sight → KeepsThese w ground.old.kept → w.machine.checkpoint ≡ None → (old : Option Stored)
+    ensures puts { IsTrue (D.honest disk.old) → (n : Moment) → IsFinishing engine.now running.now ground.old.floor n → KeepsThese n.world ground.old.kept → (old : Option Stored)
         → Half (D.seen disk.old) (D.may_leave disk.old) ground.old.place.blocks old ground.old.lives [] [] [] → AreRoots engine.now.hub.tables.tables ground.old.lives engine.now.hub.dir.leaves (known_in ground.old.parts) ground.old.trees.items old → AreWritten engine.now.hub.tables.tables ground.old.lives engine.now.hub.dir (known_in ground.old.parts) ground.old.trees.items → AreSince old ground.old.lives engine.now.hub.dir (known_in ground.old.parts) → ground.old.number ≡ number_of old
-        → Follows old engine.now.hub ground.old w → AreLivesOn (D.seen disk.old) engine.now.hub ground.old w
-        → Puts D.Disk old ground.old.lives w engine.now.hub.tables.tables engine.now.hub.dir.leaves (known_in ground.old.parts) ground.old.place.blocks ground.new.place.blocks (placed_by ground.old.trees.items taken.new.trees.items) taken.new.history.addrs.items taken.new.parts.items taken.new.captured.items disk.old disk.new result }
-    ensures count { OnOk result (length taken.new.trees.items ≡ length engine.now.hub.tables.tables) }
+        → Follows old engine.now.hub ground.old n.world → AreLivesOn (D.seen disk.old) engine.now.hub ground.old n.world
+        → Puts D.Disk old ground.old.lives n (take running.now.tables engine.now.hub.tables.tables) engine.now.hub.dir.leaves (known_in ground.old.parts) ground.old.place.blocks ground.new.place.blocks (placed_by ground.old.trees.items taken.new.trees.items) taken.new.history.addrs.items taken.new.parts.items taken.new.captured.items disk.old disk.new result }
+    ensures others { OnOk result ((w : World) → Stands engine.now w → (old : Option Stored) (written : Written) → AreSince old ground.old.lives engine.now.hub.dir written → AreLedTo engine.now.hub.tables.tables ground.old.lives engine.now.hub.dir.leaves → AreOfOthers (take running.now.tables engine.now.hub.tables.tables) engine.now.hub.dir.leaves ground.old.lives taken.new.others) }
+    ensures count { OnOk result (length taken.new.trees.items ≡ running.now.tables) }
     ensures told { OnOk result (AreTold ground.old.trees.items taken.new.trees.items) }
     ensures room { OnOk result (length taken.new.trees.items ≤ vec_capacity ground.new.trees) }
     ensures parts_room { OnOk result (HaveRoom ground.new.parts taken.new.parts.items) }
@@ -164,6 +175,7 @@ fn write_blocks<D: Disk>(
     ensures fault { IfErr result (λ e. IsOfDisk e → Rose (D.faults disk.old) (D.faults disk.new)) }
     ensures disk { SameDisk D.Disk disk.old disk.new }
 {
+    rows_taken_before_serve();
     let blocks = &mut ground.place.blocks;
     let was = Before {
         trees: &ground.trees,
@@ -172,17 +184,21 @@ fn write_blocks<D: Disk>(
         kept: &ground.kept,
         floor: ground.floor,
     };
-    match write_body(alloc, disk, blocks, was, engine, snapshot, taken) {
+    match write_body(alloc, disk, blocks, was, engine, snapshot, running, taken) {
         Ok(()) => {}
         Err(error) => return Err(error),
     }
-    let Ok(()) = reserve_for(&mut ground.trees, engine) else {
+    let Ok(others) = others_of(alloc, engine, &ground.lives, running.tables) else {
+        return Err(StoreError::NoMemory);
+    };
+    taken.others = others;
+    let Ok(()) = reserve_for(&mut ground.trees, running.tables) else {
         return Err(StoreError::NoMemory);
     };
     let Ok(()) = reserve_parts(&mut ground.parts, &taken.parts) else {
         return Err(StoreError::NoMemory);
     };
-    let Ok(image) = image_of(alloc, engine, snapshot, ground.number, &ground.trees, taken) else {
+    let Ok(image) = image_of(alloc, engine, running, ground.number, &ground.trees, taken) else {
         return Err(StoreError::NoMemory);
     };
     match finish(disk, blocks, ground.number + 1, image) {
@@ -199,33 +215,44 @@ fn write_body<D: Disk>(
     was: Before<'_>,
     engine: &Local,
     snapshot: &Snapshot,
+    running: &RunningCheckpoint,
     taken: &mut Taken,
 ) -> Result<(), StoreError>
+    requires sight { snapshot.now.sight ≡ sight_at engine.now.hub.txns.run engine.now.hub.txns.next (unended engine.now.hub.txns) }
     requires held { blocks.old.is_held ≡ true }
     requires none { taken.old.trees.items ≡ [] }
     requires unwritten { taken.old.parts.items ≡ [] }
     requires unlisted { taken.old.captured.items ≡ [] }
     requires low { AreLow was.trees.now }
     requires ready { IsTrue (D.honest disk.old) → end_of blocks.old.space ≤ length (D.seen disk.old) }
-    ensures takes { IsTrue (D.honest disk.old) → (w : World) → Stands engine.now w → NoneResolves w.machine → SeesCommitted w.machine (length w.machine.history) snapshot.now.sight → KeepsThese w was.entry.kept.now → w.machine.checkpoint ≡ None → (old : Option Stored)
+    ensures takes { IsTrue (D.honest disk.old) → (n : Moment) → IsFinishing engine.now running.now was.entry.floor n → KeepsThese n.world was.entry.kept.now → (old : Option Stored)
         → Half (D.seen disk.old) (D.may_leave disk.old) blocks.old old was.entry.lives.now [] [] [] → AreRoots engine.now.hub.tables.tables was.entry.lives.now engine.now.hub.dir.leaves (known_in was.entry.parts.now) was.entry.trees.now old → AreWritten engine.now.hub.tables.tables was.entry.lives.now engine.now.hub.dir (known_in was.entry.parts.now) was.entry.trees.now → AreSince old was.entry.lives.now engine.now.hub.dir (known_in was.entry.parts.now)
-        → FollowsFrom old engine.now.hub.tables.tables was.entry.lives.now engine.now.hub.dir.leaves (known_in was.entry.parts.now) was.entry.trees.now was.entry.floor w → AreOnDevice (D.seen disk.old) was.entry.lives.now engine.now.hub.dir.leaves w.shelf
-        → TakesAll D.Disk old was.entry.lives.now w engine.now.hub.tables.tables engine.now.hub.dir.leaves (known_in was.entry.parts.now) blocks.old blocks.new (placed_by was.entry.trees.now taken.new.trees.items) taken.new.parts.items taken.new.captured.items disk.old disk.new taken.new.history.root taken.new.history.addrs.items result }
+        → FollowsFrom old engine.now.hub.tables.tables was.entry.lives.now engine.now.hub.dir.leaves (known_in was.entry.parts.now) was.entry.trees.now was.entry.floor n.world → AreOnDevice (D.seen disk.old) was.entry.lives.now engine.now.hub.dir.leaves n.world.shelf
+        → TakesAll D.Disk old was.entry.lives.now n (take running.now.tables engine.now.hub.tables.tables) engine.now.hub.dir.leaves (known_in was.entry.parts.now) blocks.old blocks.new (placed_by was.entry.trees.now taken.new.trees.items) taken.new.parts.items taken.new.captured.items disk.old disk.new taken.new.history.root taken.new.history.addrs.items result }
     ensures root { OnOk result (taken.new.history.root.level ≤ 60) }
-    ensures count { OnOk result (length taken.new.trees.items ≡ length engine.now.hub.tables.tables) }
+    ensures count { OnOk result (length taken.new.trees.items ≡ running.now.tables) }
     ensures told { OnOk result (AreTold was.entry.trees.now taken.new.trees.items) }
     ensures ready { IsTrue (D.honest disk.old) → OnOk result (end_of blocks.new.space ≤ length (D.seen disk.new)) }
     ensures held { blocks.new.is_held ≡ true }
     ensures fault { IfErr result (λ e. IsOfDisk e → Rose (D.faults disk.old) (D.faults disk.new)) }
     ensures disk { SameDisk D.Disk disk.old disk.new }
 {
-    match write_trees(alloc, disk, blocks, was, engine, snapshot, taken) {
+    let Ok(leaves) = older_of(alloc, engine, was.kept, running) else {
+        return Err(StoreError::NoMemory);
+    };
+    match write_trees(
+        alloc,
+        disk,
+        blocks,
+        was,
+        engine,
+        snapshot,
+        running.tables,
+        taken,
+    ) {
         Ok(()) => {}
         Err(error) => return Err(error),
     }
-    let Ok(leaves) = older_of(alloc, engine, was.kept) else {
-        return Err(StoreError::NoMemory);
-    };
     match write_history(alloc, disk, blocks, leaves, &mut taken.captured) {
         Ok(place) => {
             taken.history = place;
@@ -236,20 +263,83 @@ fn write_body<D: Disk>(
 }
 
 // The older versions that a read can want, as the leaves of a history. The error is want of memory.
-fn older_of(alloc: Global, engine: &Local, kept: &Kept) -> Result<Vec<HistoryLeaf>, NoMemory>
-    ensures { IfOk result (λ leaves. (records : List StoredRecord) × AreWritable leaves.items records × ((w : World) → Stands engine.now w → KeepsThese w kept.now → w.machine.checkpoint ≡ None → NoneResolves w.machine → IsHistoryOf w.machine records)) }
+fn older_of(
+    alloc: Global,
+    engine: &Local,
+    kept: &Kept,
+    running: &RunningCheckpoint,
+) -> Result<Vec<HistoryLeaf>, NoMemory>
+    ensures { IfOk result (λ leaves. (records : List StoredRecord) × AreWritable leaves.items records × ((n : Moment) (floor : AName) → IsFinishing engine.now running.now floor n → KeepsThese n.world kept.now → IsHistoryThen n records)) }
 {
-    let older = gather(alloc, engine, kept)?;
-    written_histories_serve();
+    let older = gather(alloc, engine, kept, running)?;
     leaves_of(alloc, &older)
 }
 
-// Takes room for a tree of each table of the engine.
-fn reserve_for(trees: &mut Vec<TreePlace>, engine: &Local) -> Result<(), NoMemory>
-    ensures items { trees.new.items ≡ trees.old.items }
-    ensures room { OnOk result (length engine.now.hub.tables.tables ≤ vec_capacity trees.new) }
+// The leaves of tables that were made since the checkpoint started which were written since the one
+// before: they stay as they are. The error is want of memory. `O(n log n)` in the leaves of these
+// tables.
+fn others_of(alloc: Global, engine: &Local, lives: &Lives, tables: u32) -> Result<Lives, NoMemory>
+    ensures { IfOk result (λ others. (w : World) → Stands engine.now w → (old : Option Stored) (written : Written) → AreSince old lives.now engine.now.hub.dir written → AreLedTo engine.now.hub.tables.tables lives.now engine.now.hub.dir.leaves → AreOfOthers (take tables engine.now.hub.tables.tables) engine.now.hub.dir.leaves lives.now others) }
 {
-    let count = engine.tables().len();
+    let mut others = Lives::new(alloc);
+    let count = engine.tables().len() as u32;
+    for place in tables..count {
+        add_table(engine, lives, place, &mut others)?;
+    }
+    Ok(others)
+}
+
+// Adds those of the table at a place.
+fn add_table(engine: &Local, lives: &Lives, place: u32, others: &mut Lives) -> Result<(), NoMemory>
+    ensures { OnOk result ((t : ATable) → slice_get engine.now.hub.tables.tables place ≡ Some t → others.new ≡ with_all_live lives.now others.old (leaves_in t.number engine.now.hub.dir.leaves)) }
+{
+    match engine.tables().table(place) {
+        Some(table) => add_lives(engine, lives, table.number, others),
+        None => Ok(()),
+    }
+}
+
+// Adds those of the table of this number.
+fn add_lives(engine: &Local, lives: &Lives, table: u32, others: &mut Lives) -> Result<(), NoMemory>
+    ensures { OnOk result (others.new ≡ with_all_live lives.now others.old (leaves_in table engine.now.hub.dir.leaves)) }
+{
+    let mut leaves = engine.leaves().leaves_of(table);
+    while let Some(leaf) = leaves.next_leaf() {
+        add_live(lives, leaf, others)?;
+    }
+    Ok(())
+}
+
+// Adds that of a leaf, if it was written since.
+fn add_live(lives: &Lives, leaf: &Leaf, others: &mut Lives) -> Result<(), NoMemory>
+    ensures { OnOk result (others.new ≡ with_live lives.now others.old leaf.now) }
+{
+    if lives.is_live(leaf) {
+        others.hold(leaf.id, leaf.entry.link.addr)
+    } else {
+        Ok(())
+    }
+}
+
+// With what the names begin that had not ended as the checkpoint started. Where leaves stay that were
+// written since the one before, that of the one before still holds.
+fn next_floor(floor: Name, running: &RunningCheckpoint, others: &Lives) -> Name
+    ensures none { others.now ≡ [] → result ≡ floor_at running.now.snapshot.sight }
+    ensures some { (others.now ≡ [] → ⊥) → result ≡ floor }
+{
+    if others.is_empty() {
+        floor_of(&running.snapshot)
+    } else {
+        floor
+    }
+}
+
+// Takes room for a tree of each of so many tables.
+fn reserve_for(trees: &mut Vec<TreePlace>, tables: u32) -> Result<(), NoMemory>
+    ensures items { trees.new.items ≡ trees.old.items }
+    ensures room { OnOk result (tables ≤ vec_capacity trees.new) }
+{
+    let count = tables as usize;
     trees.reserve(count.saturating_sub(trees.len()))?;
     Ok(())
 }
@@ -265,28 +355,27 @@ fn reserve_parts(parts: &mut Parts, written: &[LeafPart]) -> Result<(), NoMemory
     Ok(())
 }
 
-// The image of the record of a checkpoint with these trees and this history.
+// The image of the record of the checkpoint with these trees and this history.
 fn image_of(
     alloc: Global,
     engine: &Local,
-    snapshot: &Snapshot,
+    running: &RunningCheckpoint,
     number: u64,
     was: &[TreePlace],
     taken: &Taken,
 ) -> Result<Vec<u8>, NoMemory>
     requires number { number < 2 ^ 62 - 1 }
     requires run { engine.now.hub.txns.run ≤ number + 1 }
-    requires sight { snapshot.now.sight ≡ sight_at engine.now.hub.txns.run engine.now.hub.txns.next (unended engine.now.hub.txns) }
     requires told { AreTold was.now taken.now.trees.items }
     requires root { taken.now.history.root.level ≤ 60 }
-    ensures image { (w : World) → Stands engine.now w → NoneResolves w.machine → IfOk result (λ v. IsImageOf w.machine number engine.now.hub.tables.tables (placed_by was.now taken.now.trees.items) taken.now.history.root v.items) }
+    ensures image { (n : Moment) (floor : AName) → IsFinishing engine.now running.now floor n → IfOk result (λ v. IsImageOf n.world.machine n.checkpoint number (take running.now.tables engine.now.hub.tables.tables) (placed_by was.now taken.now.trees.items) taken.now.history.root v.items) }
     ensures some { IfOk result (λ v. 1 ≤ length v.items) }
     ensures most { IfOk result (λ v. length v.items ≤ 2 ^ 18) }
 {
     let record = record_of(
         alloc,
         engine,
-        snapshot,
+        running,
         number,
         was,
         &taken.trees,
@@ -296,7 +385,7 @@ fn image_of(
 }
 
 // The ground is that of the checkpoint that has what was taken, whose record stands at the address, and
-// of this floor. Nothing was written since.
+// of this floor. Of the leaves that were written since the one before those of other tables are left.
 fn settle(ground: &mut Ground, taken: Taken, addr: Addr, floor: Name)
     requires number { ground.old.number < 2 ^ 62 - 1 }
     requires kept { AreKept ground.old.trees.items taken.trees.items }
@@ -309,9 +398,9 @@ fn settle(ground: &mut Ground, taken: Taken, addr: Addr, floor: Name)
     ensures stand { ground.new.history.items ≡ taken.history.addrs.items }
     ensures floor { ground.new.floor ≡ floor }
     ensures slot { ground.new.place.slot ≡ Some (slot_at (ground.old.number + 1) addr) }
-    ensures lives { ground.new.lives ≡ [] }
+    ensures lives { ground.new.lives ≡ taken.others }
     ensures history { ground.new.kept ≡ ground.old.kept }
-    ensures cells { (old : Option Stored) (captured : List AnAddr) (a : AnAddr) → AreOldBlocks old ground.old.lives (addrs_of ground.old.trees.items ++ (ground.old.history.items ++ addrs_in ground.old.lives)) → ((x : AnAddr) → Member x (addrs_of (kept_by ground.old.trees.items taken.trees.items)) → Member x captured) → AreOwn old ground.old.lives captured → IsFresh old ground.old.lives captured a → ((u : ℕ) → cell_at ground.old.place.blocks.cells u ≡ done_at old ground.old.lives captured a u) → (u : ℕ) → cell_at ground.new.place.blocks.cells u ≡ settled_at captured a u }
+    ensures cells { (old : Option Stored) (captured : List AnAddr) (a : AnAddr) → AreOldBlocks old ground.old.lives (addrs_of ground.old.trees.items ++ (ground.old.history.items ++ addrs_in ground.old.lives)) → ((x : AnAddr) → Member x (addrs_of (kept_by ground.old.trees.items taken.trees.items)) → Member x captured) → AreOwn old ground.old.lives captured → IsFresh old ground.old.lives captured a → AreApartFrom old ground.old.lives captured (addrs_of ground.old.trees.items ++ ground.old.history.items) taken.others → ((u : ℕ) → cell_at ground.old.place.blocks.cells u ≡ done_at old ground.old.lives captured a u) → (u : ℕ) → cell_at ground.new.place.blocks.cells u ≡ settled_at captured taken.others a u }
     ensures end { end_of ground.new.place.blocks.space ≡ end_of ground.old.place.blocks.space }
     ensures units { AreUnits ground.old.place.blocks.cells ground.old.place.blocks.space → AreUnits ground.new.place.blocks.cells ground.new.place.blocks.space }
     ensures held { ground.new.place.blocks.is_held ≡ ground.old.place.blocks.is_held }
@@ -322,7 +411,9 @@ fn settle(ground: &mut Ground, taken: Taken, addr: Addr, floor: Name)
         &taken.trees,
         &ground.history,
         &mut ground.lives,
+        &taken.others,
     );
+    ground.lives = taken.others;
     put_trees(&mut ground.trees, taken.trees);
     put_parts(&mut ground.parts, taken.parts);
     ground.history = taken.history.addrs;

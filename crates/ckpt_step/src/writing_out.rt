@@ -58,6 +58,7 @@ pub fn write_out<D: Disk>(
     ensures fault { IfErr result (λ r. r ≡ Refusal.DiskFault → Rose (D.faults disk.old) (D.faults disk.new)) }
     ensures number { ground.new.number ≡ ground.old.number }
     ensures trees { ground.new.trees ≡ ground.old.trees }
+    ensures floor { ground.new.floor ≡ ground.old.floor }
     ensures stood { ground.new.history ≡ ground.old.history }
     ensures sessions { length engine.new.sessions ≡ length engine.old.sessions }
     ensures hub { (engine.new.hub.tables ≡ engine.old.hub.tables) × (engine.new.hub.txns ≡ engine.old.hub.txns) }
@@ -118,6 +119,7 @@ pub(crate) fn put_out<D: Disk>(
     ensures history { ground.new.kept ≡ ground.old.kept }
     ensures number { ground.new.number ≡ ground.old.number }
     ensures trees { ground.new.trees ≡ ground.old.trees }
+    ensures floor { ground.new.floor ≡ ground.old.floor }
     ensures stood { ground.new.history ≡ ground.old.history }
     ensures sessions { length engine.new.sessions ≡ length engine.old.sessions }
     ensures hub { (engine.new.hub.tables ≡ engine.old.hub.tables) × (engine.new.hub.txns ≡ engine.old.hub.txns) }

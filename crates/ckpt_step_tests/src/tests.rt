@@ -5,10 +5,11 @@ ghost use Rattle.ckpt_step.specs.Trees.{AreLow};
 
 use block_sum::sum;
 use catalog::Catalog;
-use ckpt_step::{Evicted, Ground, Lives, Parts, checkpoint, evict};
+use checkpoint_record::Record;
+use ckpt_step::{Evicted, Ground, Lives, Parts, checkpoint, evict, finish, start};
 use device_layout::Addr;
 use disk_model::{Call as DiskCall, Look, MemDisk};
-use engine::{Called, Local, Stays};
+use engine::{Called, Local, RunningCheckpoint, Stays};
 use hist_open::History;
 use item::{Change, Format, Formats, Item};
 use plain_disk::PlainDisk;
@@ -187,6 +188,30 @@ fn take(rt: &impl Abort, alloc: Global, bench: &mut Bench) -> Result<(), Refusal
     assert!(rt; bench.ground.trees.len() <= bench.engine.tables().len());
     assert!(rt; are_low(&bench.ground.trees));
     checkpoint(alloc, &mut bench.disk, &mut bench.ground, &mut bench.engine)
+}
+
+fn start_one(rt: &impl Abort, alloc: Global, bench: &Bench) -> RunningCheckpoint {
+    let running = start(alloc, &bench.ground, &bench.engine);
+    running.expect(rt, "it starts")
+}
+
+fn finish_one(
+    rt: &impl Abort,
+    alloc: Global,
+    bench: &mut Bench,
+    running: &RunningCheckpoint,
+) -> Result<(), Refusal> {
+    let marks = bench.engine.marks();
+    assert!(rt; marks.run.saturating_sub(1) <= bench.ground.number);
+    assert!(rt; bench.ground.trees.len() <= bench.engine.tables().len());
+    assert!(rt; are_low(&bench.ground.trees));
+    finish(
+        alloc,
+        &mut bench.disk,
+        &mut bench.ground,
+        &mut bench.engine,
+        running,
+    )
 }
 
 fn take_whole(rt: &impl Abort, alloc: Global, bench: &mut Bench) {
@@ -690,19 +715,26 @@ fn a_table_past_one_leaf_keeps_the_leaves_that_are_the_same(rt: HostRuntime) {
     check_rows(&rt, alloc, bench, 300);
 }
 
-// Evicts the first leaf that was made.
-fn let_out(alloc: Global, bench: &mut Bench) -> Result<Evicted, Refusal> {
+// Evicts a leaf beside this checkpoint, if one runs.
+fn let_out(
+    alloc: Global,
+    bench: &mut Bench,
+    running: Option<&RunningCheckpoint>,
+    leaf: u64,
+) -> Result<Evicted, Refusal> {
     evict(
         alloc,
         &mut bench.disk,
         &mut bench.ground,
         &mut bench.engine,
-        0,
+        running,
+        leaf,
     )
 }
 
+// Evicts the first leaf that was made.
 fn check_let_out(rt: &impl Abort, alloc: Global, bench: &mut Bench, wanted: Evicted) {
-    assert!(rt; let_out(alloc, bench) == Ok(wanted));
+    assert!(rt; let_out(alloc, bench, None, 0) == Ok(wanted));
 }
 
 fn part(rt: &impl Abort, alloc: Global, bench: &mut Bench) {
@@ -915,4 +947,178 @@ fn older_versions_that_a_read_can_want_stand_in_the_history(rt: HostRuntime) {
     let alloc = rt.alloc();
     let mut bench = new_table(&rt, alloc);
     check_older(&rt, alloc, &mut bench);
+}
+
+// What others do while a checkpoint runs.
+#[derive(Clone, Copy)]
+enum Between {
+    // The key of the table `a` gets a value, with a commit stamp.
+    Put(u8, u64),
+    // The leaf of the table `a` is evicted.
+    Evict,
+    // The table `b` is made, and gets a row.
+    Make,
+    // Its leaf is evicted.
+    EvictMade,
+}
+
+fn go_between(
+    rt: &impl Abort,
+    alloc: Global,
+    bench: &mut Bench,
+    running: &RunningCheckpoint,
+    what: Between,
+) {
+    match what {
+        Between::Put(value, stamp) => put_stamped(rt, alloc, bench, (value, stamp)),
+        Between::Evict => evict_beside(rt, alloc, bench, running, 0),
+        Between::Make => {
+            create(rt, alloc, &mut bench.engine, b"b");
+            put(rt, alloc, bench, b"b", b"1");
+        }
+        Between::EvictMade => {
+            let leaf = leaf_in(rt, bench, 1).id;
+            evict_beside(rt, alloc, bench, running, leaf);
+        }
+    }
+}
+
+fn evict_beside(
+    rt: &impl Abort,
+    alloc: Global,
+    bench: &mut Bench,
+    running: &RunningCheckpoint,
+    leaf: u64,
+) {
+    assert_eq!(rt;
+        let_out(alloc, bench, Some(running), leaf),
+        Ok(Evicted::Done)
+    );
+}
+
+// What is done between the start and the finish; then the stamp of the row that the device has of the
+// key, which may be too new, the history below it, and how many tables the next checkpoint has.
+type Beside<'a> = (&'a [Between], u64, &'a [(u8, u64)], usize);
+
+const BESIDE: [Beside<'static>; 5] = [
+    (&[], 10, &[], 1),
+    (&[Between::Put(b'2', 20)], 20, &[(b'1', 10)], 1),
+    (
+        &[Between::Put(b'2', 20), Between::Evict],
+        20,
+        &[(b'1', 10)],
+        1,
+    ),
+    (
+        &[Between::Put(b'2', 20), Between::Put(b'3', 30)],
+        30,
+        &[(b'1', 10), (b'2', 20)],
+        1,
+    ),
+    (
+        &[Between::Make, Between::Put(b'2', 20)],
+        20,
+        &[(b'1', 10)],
+        2,
+    ),
+];
+
+// The record of the last checkpoint on the device.
+fn record_on(rt: &impl Abort, alloc: Global, disk: &mut PlainDisk) -> Record {
+    let SurveyedWhole { place: _, whole } = survey_whole(alloc, disk).expect(rt, "it opens");
+    whole.expect(rt, "a checkpoint").record
+}
+
+// The one table that stood as it started has a row of this stamp, and the snapshot is of that time.
+fn check_finished(rt: &impl Abort, alloc: Global, bench: &mut Bench, next: u64, stamp: u64) {
+    let record = record_on(rt, alloc, &mut bench.disk);
+    assert_eq!(rt; record.snapshot.max, next);
+    assert_eq!(rt; record.tables.len(), 1);
+    let table = record.tables.first().expect(rt, "a table");
+    assert_eq!(rt; table.root.link.durable, stamp);
+}
+
+fn check_beside(rt: &impl Abort, alloc: Global, bench: &mut Bench, case: &Beside<'_>) {
+    let (between, stamp, history, tables) = case;
+    put_stamped(rt, alloc, bench, (b'1', 10));
+    let next = bench.engine.marks().next;
+    let running = start_one(rt, alloc, bench);
+    for what in *between {
+        go_between(rt, alloc, bench, &running, *what);
+    }
+    assert!(rt; finish_one(rt, alloc, bench, &running) == Ok(()));
+    check_finished(rt, alloc, bench, next, *stamp);
+    check_history(rt, alloc, bench, history);
+    take_whole(rt, alloc, bench);
+    let record = record_on(rt, alloc, &mut bench.disk);
+    assert_eq!(rt; record.tables.len(), *tables);
+}
+
+// The device has the snapshot and the tables of the start, and what a read at that moment can want,
+// whatever others did until the finish.
+#[test]
+fn a_checkpoint_has_what_stood_as_it_started(rt: HostRuntime) {
+    let alloc = rt.alloc();
+    for case in &BESIDE {
+        let mut bench = new_table(&rt, alloc);
+        check_beside(&rt, alloc, &mut bench, case);
+    }
+}
+
+// The only leaf of the table at a place.
+fn leaf_in<'a>(rt: &impl Abort, bench: &'a Bench, place: u32) -> &'a Leaf {
+    let table = bench.engine.tables().table(place).expect(rt, "a table");
+    let mut leaves = bench.engine.leaves().leaves_of(table.number);
+    leaves.next_leaf().expect(rt, "a leaf")
+}
+
+// Where it leads, and whether it was written since the last checkpoint.
+fn leaf_at(rt: &impl Abort, bench: &Bench, place: u32) -> (Addr, bool) {
+    let leaf = leaf_in(rt, bench, place);
+    (leaf.entry.link.addr, bench.ground.lives.is_live(leaf))
+}
+
+fn check_made(rt: &impl Abort, alloc: Global, bench: &mut Bench) {
+    put(rt, alloc, bench, b"a", b"1");
+    let running = start_one(rt, alloc, bench);
+    go_between(rt, alloc, bench, &running, Between::Make);
+    go_between(rt, alloc, bench, &running, Between::EvictMade);
+    let (made, _) = leaf_at(rt, bench, 1);
+    assert!(rt; finish_one(rt, alloc, bench, &running) == Ok(()));
+    assert!(rt; leaf_at(rt, bench, 1) == (made, true));
+    take_whole(rt, alloc, bench);
+    assert!(rt; leaf_at(rt, bench, 1) == (made, false));
+}
+
+// The block of a leaf of a table that was made since the start stays, and the next checkpoint has it.
+#[test]
+fn leaves_of_tables_that_were_made_since_the_start_stay(rt: HostRuntime) {
+    let alloc = rt.alloc();
+    let mut bench = new_table(&rt, alloc);
+    check_made(&rt, alloc, &mut bench);
+}
+
+// A bench with a checkpoint that runs beside a later value. The calls of the disk of these numbers fail.
+fn started(rt: &impl Abort, alloc: Global, failing: &[u64]) -> (Bench, RunningCheckpoint) {
+    let mut bench = new_bench(rt, alloc, ROOM, failing, &[b"a"]);
+    put_stamped(rt, alloc, &mut bench, (b'1', 10));
+    let running = start_one(rt, alloc, &bench);
+    put_stamped(rt, alloc, &mut bench, (b'2', 20));
+    (bench, running)
+}
+
+// The call of this number is the first one of the finish, which only looks at the disk.
+fn check_unfinished(rt: &impl Abort, alloc: Global, first: u64) {
+    let (mut bench, running) = started(rt, alloc, &[first]);
+    assert!(rt; finish_one(rt, alloc, &mut bench, &running) == Err(Refusal::DiskFault));
+    assert!(rt; finish_one(rt, alloc, &mut bench, &running) == Ok(()));
+    check_history(rt, alloc, &mut bench, &[(b'1', 10)]);
+}
+
+// A failed read leaves the engine up and the checkpoint running, and it may be finished later.
+#[test]
+fn a_checkpoint_that_was_not_finished_may_be_later(rt: HostRuntime) {
+    let alloc = rt.alloc();
+    let (bench, _) = started(&rt, alloc, &[]);
+    check_unfinished(&rt, alloc, bench.disk.medium.calls().len() as u64);
 }

@@ -13,11 +13,12 @@ use Rattle.kv_model.specs.Droppable.{pin}
 use Rattle.kv_model.specs.History.{Table}
 use Rattle.kv_model.specs.Machine.{Checkpoint, Machine}
 use Rattle.row_page.specs.Rows.{Row}
+use Rattle.snapshot.specs.Matters.{SeesCommitted}
 use Rattle.snapshot.specs.Past.{IsPast}
 use Rattle.leaf_frame.specs.Leaf.{HeldLeaf}
 use Rattle.txn_table.specs.Past.{PastsStand, SightStands}
 use Rattle.txn_table.specs.TableLaws.{PinsAreTheMachines}
-use Rattle.txn_table.specs.Tabled.{Table as Txns, floor_of, pin_of}
+use Rattle.txn_table.specs.Tabled.{Table as Txns, floor_of, pin_of, sight_in}
 use Rattle.ts_rules.specs.declared.stamps.Stamps.{Stamps}
 use Rattle.tree_dir.specs.declared.leaf.Framed.{Framed}
 use Rattle.tree_dir.specs.declared.leaf.Leaf.{Leaf}
@@ -33,8 +34,10 @@ use Rattle.engine_world.specs.Stands.{Engine, Stands}
 use Rattle.engine_world.specs.Worlds.{World, with_records}
 use Rattle.engine_world.proofs.LeavesChanged.{changed-twice, contains-source}
 use Rattle.engine.specs.declared.evicting.Stays.{Stays}
+use Rattle.engine.specs.declared.running_checkpoint.RunningCheckpoint.{RunningCheckpoint}
 use Rattle.engine.specs.declared.evicting.Stays.TheVariants.{Away, Call, Pinned, Written, LastGeneration, Coming, Walked}
 use Rattle.engine.specs.Evictions.{KeepsFrame, KeepsLeaf, MayBeEmptied, MayBeEvicted, framed_in}
+use Rattle.engine.specs.Running.{RunsAs, recorded, sight_of_running}
 use Rattle.engine.specs.Sound.{IsSound}
 use Rattle.engine.proofs.GivingWay.{empty-fits}
 use Rattle.engine.proofs.LeafSizes.{leaves-set}
@@ -164,19 +167,31 @@ evicted-stands law e id link may is w rows moved st to = subst (λ (n : ℕ). St
 
 -- ---- what is out of reach
 
--- while no checkpoint runs, whose snapshot would be wanted
-none-runs : (m : Machine) → m.checkpoint ≡ None → SightStands m None
-none-runs m none k runs = let clash : None ≡ Some k = sym none ∙ runs in absurd cc
+-- what its snapshot sees
+pub seen-running : (r : Option RunningCheckpoint) → sight_in (option_map (λ (x : RunningCheckpoint). x.snapshot) r) ≡ sight_of_running r
+seen-running None = refl
+seen-running (Some r) = refl
+
+-- the snapshot of the checkpoint that runs is the one that is kept
+sight-runs : (m : Machine) (r : Option RunningCheckpoint) → RunsAs m r → SightStands m (sight_of_running r)
+sight-runs m None none k runs = let clash : None ≡ Some k = sym none ∙ runs in absurd cc
+sight-runs m (Some r) is k runs = (r.snapshot.sight, refl, subst (λ (x : Checkpoint). SeesCommitted m x.prefix r.snapshot.sight) (same_Some is.0 k (sym is.1 ∙ runs)) is.2.sees)
+
+-- and so is the stamp that it recorded
+recorded-runs : (m : Machine) (r : Option RunningCheckpoint) → RunsAs m r → option_map (λ (c : Checkpoint). c.oldest) m.checkpoint ≡ recorded r
+recorded-runs m None none = ap (option_map (λ (c : Checkpoint). c.oldest)) none
+recorded-runs m (Some r) is = ap (option_map (λ (c : Checkpoint). c.oldest)) is.1 ∙ ap Some (sym is.2.oldest)
 
 oldest-is : (e : Engine) (w : World) → Stands e w → w.machine.oldest ≡ e.hub.stamps.oldest
 oldest-is e w st = ap (λ (s : Stamps). s.oldest) (sym st.stamps)
 
-recorded-is : (t : Txns) (m : Machine) → m.checkpoint ≡ None → pin_of t m.oldest (option_map (λ (c : Checkpoint). c.oldest) m.checkpoint) ≡ pin_of t m.oldest None
-recorded-is t m none = ap (λ (o : Option Checkpoint). pin_of t m.oldest (option_map (λ (c : Checkpoint). c.oldest) o)) none
+recorded-is : (t : Txns) (m : Machine) (r : Option RunningCheckpoint) → RunsAs m r → pin_of t m.oldest (option_map (λ (c : Checkpoint). c.oldest) m.checkpoint) ≡ pin_of t m.oldest (recorded r)
+recorded-is t m r runs = ap (pin_of t m.oldest) (recorded-runs m r runs)
 
-pub pin-is : PinsAreTheMachines → (e : Engine) (w : World) → Stands e w → w.machine.checkpoint ≡ None → pin_of e.hub.txns e.hub.stamps.oldest None ≡ pin w.machine
-pin-is law e w st none = ap (λ n. pin_of e.hub.txns n None) (sym (oldest-is e w st)) ∙ (sym (recorded-is e.hub.txns w.machine none) ∙ law e.hub.txns w.machine st.txns)
+pub pin-is : PinsAreTheMachines → (e : Engine) (w : World) (r : Option RunningCheckpoint) → Stands e w → RunsAs w.machine r → pin_of e.hub.txns e.hub.stamps.oldest (recorded r) ≡ pin w.machine
+pin-is law e w r st runs = ap (λ n. pin_of e.hub.txns n (recorded r)) (sym (oldest-is e w st)) ∙ (sym (recorded-is e.hub.txns w.machine r runs) ∙ law e.hub.txns w.machine st.txns)
 
-pub past-is : PastsStand → (e : Engine) (w : World) → Stands e w → w.machine.checkpoint ≡ None → (table : ℕ) (key : List ℕ) → IsPast w.machine table key (pin_of e.hub.txns e.hub.stamps.oldest None) (floor_of e.hub.txns None)
-past-is law e w st none table key = subst (λ n. IsPast w.machine table key n (floor_of e.hub.txns None)) (recorded-is e.hub.txns w.machine none ∙ ap (λ n. pin_of e.hub.txns n None) (oldest-is e w st))
-    (law e.hub.txns w.machine None table key st.valid st.txns (none-runs w.machine none))
+pub past-is : PastsStand → (e : Engine) (w : World) (r : Option RunningCheckpoint) → Stands e w → RunsAs w.machine r → (table : ℕ) (key : List ℕ)
+    → IsPast w.machine table key (pin_of e.hub.txns e.hub.stamps.oldest (recorded r)) (floor_of e.hub.txns (sight_of_running r))
+past-is law e w r st runs table key = subst (λ n. IsPast w.machine table key n (floor_of e.hub.txns (sight_of_running r))) (recorded-is e.hub.txns w.machine r runs ∙ ap (λ n. pin_of e.hub.txns n (recorded r)) (oldest-is e w st))
+    (law e.hub.txns w.machine (sight_of_running r) table key st.valid st.txns (sight-runs w.machine r runs))

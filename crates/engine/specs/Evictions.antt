@@ -16,11 +16,13 @@ use Rattle.engine_world.specs.Stands.{Engine}
 use Rattle.engine.specs.declared.evicting.Horizon.{Horizon}
 use Rattle.engine.specs.declared.evicting.Stays.{Stays}
 use Rattle.engine.specs.declared.evicting.Stays.TheVariants.{Away, Call, Pinned, Written, LastGeneration, Coming, Walked}
+use Rattle.engine.specs.declared.running_checkpoint.RunningCheckpoint.{RunningCheckpoint}
 use Rattle.engine.specs.Frames.{IsUnpinned}
+use Rattle.engine.specs.Running.{recorded, sight_of_running}
 
--- the pin stamp and the floor of names while no checkpoint runs
-abbrev pub horizon_of : Engine → Horizon
-horizon_of e = record { pin = pin_of e.hub.txns e.hub.stamps.oldest None; floor = floor_of e.hub.txns None }
+-- the pin stamp and the floor of names, beside this checkpoint
+abbrev pub horizon_of : Engine → Option RunningCheckpoint → Horizon
+horizon_of e running = record { pin = pin_of e.hub.txns e.hub.stamps.oldest (recorded running); floor = floor_of e.hub.txns (sight_of_running running) }
 
 -- ---- whether a leaf may be evicted
 

@@ -11,6 +11,7 @@ pub mod Checkpoints
 pub mod Closes
 pub mod Waits
 pub mod Frames
+pub mod Running
 pub mod Evictions
 pub mod Partings
 pub mod Directories

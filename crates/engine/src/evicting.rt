@@ -1,7 +1,7 @@
 // Leaves that are evicted while sessions are at work: what is out of reach, why a leaf stays, and the
 // leaf that leaves its frame once its block is written anew.
 
-ghost use Rattle.std.specs.Prelude.{◌≡◌, ◌≢◌, ◌<◌, ◌+◌, ◌^◌, ℕ, List, None, Some, false, length, slice_get, IfOk, IfSome, IsTrue, OnErr};
+ghost use Rattle.std.specs.Prelude.{◌≡◌, ◌≢◌, ◌<◌, ◌+◌, ◌^◌, ℕ, List, None, Some, false, length, option_copied, slice_get, IfOk, IfSome, IsTrue, OnErr};
 ghost use Rattle.item.specs.declared.Change.{Change as AChange};
 ghost use Rattle.stamp.specs.declared.Version.{Version as AVersion};
 ghost use Rattle.kv_model.specs.Droppable.{pin};
@@ -16,6 +16,7 @@ ghost use Rattle.engine_world.specs.Stands.{Stands};
 ghost use Rattle.engine_world.specs.Worlds.{World, with_records};
 ghost use Rattle.engine.specs.Evictions.{AllAside, HasBeenEvicted, HasWrittenIn, IsCalledIn, KeepsFrame, KeepsLeaf, MayBeEmptied, MayBeEvicted, NoneWrote, horizon_of};
 ghost use Rattle.engine.specs.Frames.{IsUnpinned};
+ghost use Rattle.engine.specs.Running.{RunsAs};
 ghost use Rattle.engine.specs.Sound.{IsSound};
 ghost use Rattle.engine.specs.Told.{KeepOwn};
 
@@ -23,6 +24,7 @@ use crate::frames::has_next;
 use crate::giving::{clear, leave};
 use crate::local::Local;
 use crate::parts::Parts;
+use crate::running_checkpoint::{RunningCheckpoint, recorded_by, snapshot_of};
 use call_steps::{SessionState, Stage, WrittenKey};
 use device_layout::Link;
 use engine_world::leaves_are_evicted;
@@ -34,9 +36,10 @@ use txn_table::{pasts_stand, pins_are_the_machines};
 /// at the pin stamp, and whose name is below the floor.
 #[derive(Clone, Copy, Debug, PartialEq, Eq)]
 pub struct Horizon {
-    /// The least of oldest and the active read stamps.
+    /// The least of oldest, of the oldest that a running checkpoint recorded, and of the active read stamps.
     pub pin: u64,
-    /// Each active snapshot sees what is committed under a name below it.
+    /// Each active snapshot, and that of a running checkpoint, sees what is committed under a name
+    /// below it.
     pub floor: Name,
 }
 
@@ -60,13 +63,14 @@ pub enum Stays {
 }
 
 impl Local {
-    /// What is out of reach at this moment, while no checkpoint runs. `O(n)` in the sessions.
-    pub fn horizon(&self) -> Horizon
-        ensures is { result ≡ horizon_of self.now }
-        ensures pin { (w : World) → Stands self.now w → w.machine.checkpoint ≡ None → result.pin ≡ pin w.machine }
-        ensures past { (w : World) → Stands self.now w → w.machine.checkpoint ≡ None → (table : ℕ) (key : List ℕ) → IsPast w.machine table key result.pin result.floor }
+    /// What is out of reach at this moment, beside the checkpoint that runs, if one does. `O(n)` in the
+    /// sessions.
+    pub fn horizon(&self, running: Option<&RunningCheckpoint>) -> Horizon
+        ensures is { result ≡ horizon_of self.now (option_copied running.entry) }
+        ensures pin { (w : World) → Stands self.now w → RunsAs w.machine (option_copied running.entry) → result.pin ≡ pin w.machine }
+        ensures past { (w : World) → Stands self.now w → RunsAs w.machine (option_copied running.entry) → (table : ℕ) (key : List ℕ) → IsPast w.machine table key result.pin result.floor }
     {
-        self.parts.horizon()
+        self.parts.horizon(running)
     }
 
     /// Why the leaf of this id may not be evicted at this moment; none exactly where it may. `O(n)` in
@@ -98,16 +102,17 @@ impl Local {
 }
 
 impl Parts {
-    fn horizon(&self) -> Horizon
-        ensures is { result ≡ horizon_of self.now }
-        ensures pin { (w : World) → Stands self.now w → w.machine.checkpoint ≡ None → result.pin ≡ pin w.machine }
-        ensures past { (w : World) → Stands self.now w → w.machine.checkpoint ≡ None → (table : ℕ) (key : List ℕ) → IsPast w.machine table key result.pin result.floor }
+    fn horizon(&self, running: Option<&RunningCheckpoint>) -> Horizon
+        ensures is { result ≡ horizon_of self.now (option_copied running.entry) }
+        ensures pin { (w : World) → Stands self.now w → RunsAs w.machine (option_copied running.entry) → result.pin ≡ pin w.machine }
+        ensures past { (w : World) → Stands self.now w → RunsAs w.machine (option_copied running.entry) → (table : ℕ) (key : List ℕ) → IsPast w.machine table key result.pin result.floor }
     {
         pasts_stand();
         pins_are_the_machines();
+        let oldest = self.hub.stamps.oldest;
         Horizon {
-            pin: self.hub.txns.pin_stamp(self.hub.stamps.oldest, None),
-            floor: self.hub.txns.floor(None),
+            pin: self.hub.txns.pin_stamp(oldest, recorded_by(running)),
+            floor: self.hub.txns.floor(snapshot_of(running)),
         }
     }
 

@@ -33,6 +33,7 @@ mod parting;
 mod parts;
 mod reads;
 mod row_reads;
+mod running_checkpoint;
 mod runs;
 mod step;
 mod system;
@@ -45,6 +46,7 @@ pub use checkpoint::EngineMarks;
 pub use evicting::{Horizon, Stays};
 pub use got::Got;
 pub use local::Local;
+pub use running_checkpoint::RunningCheckpoint;
 pub use runs::run_steps;
 pub use step::{Actor, Step};
 pub use turning::{

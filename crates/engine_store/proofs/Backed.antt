@@ -32,6 +32,7 @@ use Rattle.engine_store.specs.Keeping.{IsSameButKept, with_kept}
 use Rattle.engine_store.specs.Opened.{IsReady}
 use Rattle.engine_store.proofs.Going.{Goes}
 use Rattle.engine_store.proofs.Installing.{past_later, stays_on}
+use Rattle.engine_store.proofs.UnderWayStill.{runs_kept, runs_on, runs_same}
 
 pub stands_looked : (bytes seen : List ℕ) (was images : List ℕ → Type 0) (hub : Hub) (g : Ground) (old : Option Stored) → seen ≡ bytes → NoMore was images → StandsOn bytes was hub g old → StandsOn seen images hub g old
 stands_looked bytes seen was images hub g old same fewer on = record {
@@ -90,10 +91,10 @@ module _ {D : Type 0} (g : Ghosts D) (s s' : Store) (before after : D) (looked :
 
   -- ---- what is held
 
-  pub held_goes : (start : D) (w later : World) (first : Completed) (made : List Installed) → Stands s'.engine later → KeepsThese later s'.ground.kept → Goes w later → IsHeldIn g start s before w first made → IsHeldIn g start s' after later first made
-  held_goes start w later first made stands kept on held = record {
+  pub held_goes : s'.running ≡ s.running → (start : D) (w later : World) (first : Completed) (made : List Installed) → Stands s'.engine later → KeepsThese later s'.ground.kept → Goes w later → IsHeldIn g start s before w first made → IsHeldIn g start s' after later first made
+  held_goes same start w later first made stands kept on held = record {
     stands = stands;
-    idle = on.keeps.checkpoint ∙ held.idle;
+    running = runs_same s'.ground s.running s'.running later.machine same (runs_kept s.ground s'.ground s.running later.machine ground (runs_on s.ground s.running w.machine later.machine held.stands.valid stands.valid on.keeps.checkpoint on.machine on.apart held.running));
     kept = kept;
     bare = λ id late. ap (λ (shelf : ℕ → List Row). shelf id) on.shelf ∙ held.bare id (let ids = goes.dir.ids in omega (arith, late, ids));
     on = λ up.

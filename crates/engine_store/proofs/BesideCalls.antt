@@ -107,7 +107,7 @@ module _ {D : Type 0} (g : Ghosts D) (start disk : D) (s : Store) (first : Compl
   again_held : (v : World) (session : ℕ) → IsHeldIn g start s disk (record v { again = unset session v.again }) first made → IsHeldIn g start s disk v first made
   again_held v session x = record {
     stands = again-back s.engine v session x.stands;
-    idle = x.idle;
+    running = x.running;
     kept = x.kept;
     bare = x.bare;
     on = λ up. let o = x.on up in record {

@@ -120,7 +120,7 @@ module _ {D : Type 0} (g : Ghosts D) (s : Store) (e : Engine) (disk : D) (evicti
       record {
         later = l.0;
         stepped = l.1;
-        held = held_goes g s (with_engine s e) disk disk (looked_none g disk) goes refl start (with_kept kept w) (with_kept kept l.0) first installed l.2 (λ leaf key. refl) (goes_other w l.0 (with_kept kept w).records (with_kept kept l.0).records l.3) held;
+        held = held_goes g s (with_engine s e) disk disk (looked_none g disk) goes refl refl start (with_kept kept w) (with_kept kept l.0) first installed l.2 (λ leaf key. refl) (goes_other w l.0 (with_kept kept w).records (with_kept kept l.0).records l.3) held;
       }
 
 -- ---- steps, one after the other
@@ -140,13 +140,14 @@ pub keeps_then : {D : Type 0} (g : Ghosts D) (a b c : Store) (first mid last : D
 keeps_then g a b c first mid last one two = record {
   ready = λ was. two.ready (one.ready was);
   ground = kept_more a.ground b.ground c.ground one.ground two.ground;
+  running = two.running ∙ one.running;
   frames = two.frames ∙ one.frames;
   looked = looked_then g first mid last one.looked two.looked;
   home = two.home ∙ one.home;
 }
 
 pub keeps_none : {D : Type 0} (g : Ghosts D) (s : Store) (disk : D) → CallKeeps g s s disk disk
-keeps_none g s disk = record { ready = λ was. was; ground = refl; frames = refl; looked = looked_none g disk; home = refl }
+keeps_none g s disk = record { ready = λ was. was; ground = refl; running = refl; frames = refl; looked = looked_none g disk; home = refl }
 
 -- one step of a session's call
 pub record OneStep {D : Type 0} (g : Ghosts D) (s s' : Store) (before after : D) (evicting : List (Option Evicting)) (session : ℕ) (told : Reply) : Type 0 where

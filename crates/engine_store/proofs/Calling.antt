@@ -38,6 +38,7 @@ pub record Ended {D : Type 0} (g : Ghosts D) (s : Store) (e : Engine) (s' : Stor
   pub goes : HubGoesOn s.engine.hub e.hub
   pub on : (h : Hub) → HubGoesOn h e.hub → HubGoesOn h s'.engine.hub
   pub ground : IsSameButKept s.ground s'.ground
+  pub running : s'.running ≡ s.running
   pub frames : s'.frames ≡ s.frames
   pub looked : Looked g before after
   pub home : g.home after ≡ g.home before
@@ -84,13 +85,14 @@ module _ {D : Type 0} (g : Ghosts D) (s : Store) (e : Engine) (s' : Store) (made
         caused = l.caused;
         later = l.later;
         called = l.may;
-        held = held_goes g s s' before after x.looked hub x.ground start (with_kept s.ground.kept w) (with_kept s'.ground.kept l.later) first installed l.stands (λ leaf key. refl) (goes_other w l.later (with_kept s.ground.kept w).records (with_kept s'.ground.kept l.later).records l.goes) held;
+        held = held_goes g s s' before after x.looked hub x.ground x.running start (with_kept s.ground.kept w) (with_kept s'.ground.kept l.later) first installed l.stands (λ leaf key. refl) (goes_other w l.later (with_kept s.ground.kept w).records (with_kept s'.ground.kept l.later).records l.goes) held;
       }
 
   pub calls_keep : CallKeeps g s s' before after
   calls_keep = record {
     ready = ready_goes s s' hub x.ground;
     ground = x.ground;
+    running = x.running;
     frames = x.frames;
     looked = x.looked;
     home = x.home;

@@ -34,7 +34,7 @@ use Rattle.engine_store.specs.declared.store.Store.{Store}
 use Rattle.engine_store.specs.Answers.{answer_of}
 use Rattle.engine_store.specs.Calls.{StaysTold}
 use Rattle.engine_store.specs.Devices.{Installed, device_of}
-use Rattle.engine_store.specs.EvictCalls.{EvictAnswers, EvictsTo, IsLeafOf, IsKeptBy, IsOut, IsRefusedAtOnce, KeepsInFrame, MayLook, evict_around}
+use Rattle.engine_store.specs.EvictCalls.{EvictAnswers, EvictsTo, IsLeafOf, IsOut, IsRefusedAtOnce, KeepsInFrame, MayLook, evict_around}
 use Rattle.engine_store.specs.EvictSteps.{EndsAs, EndsWith, EvictsBeside, GivesUp, GivesUpAt, GoesTo, IsLockedBut, IsLockedByOther, IsTargetOf, LeadsTo, LeavesFewer, MayRunShort, MayTurn, SeesTo, TakesMemory, TurnsTo, around_beside, scan_from, stage_left, steps_left}
 use Rattle.engine_store.specs.Held.{IsHeld}
 use Rattle.engine_store.specs.Keeping.{with_kept}
@@ -127,7 +127,7 @@ module _ {D : Type 0} (g : Ghosts D) (start : D) (w : World) (first : Completed)
   refused_here : (stage : Option EvictStage) (r : Refusal) → (r ≡ NoMemory → MayRunShort stage) → slice_index_or w.systems number None ≡ None → SystemAnswers (here stage) w.machine (Evict name key) (Refused r) w.machine
       → EvictsBeside g start w first made s s disk disk evicting number name key stage (Refused r)
   refused_here stage r short none is =
-      let x = still_up g s s refl refl refl start disk w first made held in
+      let x = still_up g s s refl refl refl refl start disk w first made held in
       record {
         next = w.machine;
         room = x.room;
@@ -160,7 +160,7 @@ module _ {D : Type 0} (g : Ghosts D) (start : D) (w : World) (first : Completed)
   seen_here stage (Ok done) none sees =
       let x = sees (with_kept s.ground.kept w) held.stands in
       beside_of g start w first made s s disk disk evicting number name key (Some stage) Done (λ short. absurd (not_done NoMemory (sym short)))
-      (is_out g start w first made number name key s s disk disk x.0 (still_up g s s refl refl refl start disk w first made held) x.1 (λ id leaf. inl (x.1 id leaf)))
+      (is_out g start w first made number name key s s disk disk x.0 (still_up g s s refl refl refl refl start disk w first made held) x.1 (λ id leaf. inl (x.1 id leaf)))
   seen_here stage (Err r) none sees = by (sees (with_kept s.ground.kept w) held.stands) where
     by : IsRefusedAtOnce (slice_index_or w.systems number None) w.machine name key r ⊎ (((r ≡ NoMemory) × TakesMemory stage) ⊎ GivesUpAt s.engine w.machine evicting number name key (Some stage) r)
         → EvictsBeside g start w first made s s disk disk evicting number name key (Some stage) (Refused r)
@@ -353,11 +353,6 @@ pub kept_by_leaf : (e : Engine) (m : Machine) (evicting : List (Option Evicting)
     → IsRefusedAtOnce started m name key r ⊎ (((r ≡ NoMemory) × TakesMemory (Cut target)) ⊎ GivesUp e m evicting number name key (Cut target) r)
 kept_by_leaf e m evicting number name key target r started (inl short) = inr (inl (short, tt))
 kept_by_leaf e m evicting number name key target r started (inr keeps) = inr (inr keeps)
-
--- in each world
-pub kept_in : (e : Engine) (id : ℕ) (r : Refusal) → IsKeptBy e id r → (w : World) → Stands e w → (r ≡ NoMemory) ⊎ KeepsInFrame e w.machine id r
-kept_in e id r (inl short) w stands = inl short
-kept_in e id r (inr keeps) w stands = inr (keeps w stands)
 
 -- ---- what was the same
 

@@ -50,7 +50,7 @@ module _ {D : Type 0} (g : Ghosts D) (start_disk : D) (w : World) (first : Compl
   -- refused at once: nothing is changed
   pub at_once : (s : Store) (disk : D) (r : Refusal) → IsHeld g start_disk s disk w first made → IsRefusedAtOnce (slice_index_or w.systems number None) w.machine name key r → EvictsTo g start_disk w first made s s disk disk number name key (Refused r)
   at_once s disk r held is =
-      let x = still_up g s s refl refl refl start_disk disk w first made held in
+      let x = still_up g s s refl refl refl refl start_disk disk w first made held in
       record {
         next = w.machine;
         room = x.room;
@@ -121,9 +121,9 @@ module _ {D : Type 0} (g : Ghosts D) (start_disk : D) (w : World) (first : Compl
           not_up fault up = let e : Some fault ≡ None = up in cc
 
       -- by what memory or the engine as it was tell
-      pub is_told : RoomUp g start_disk w first made s s' before after → Stands s.engine (with_kept s.ground.kept w) → (r : Refusal) → IsKeptBy s.engine id r → EvictsTo g start_disk w first made s s' before after number name key (Refused r)
-      is_told x stands r (inl short) = is_short x r short
-      is_told x stands r (inr keeps) = is_kept x r (inl (keeps (with_kept s.ground.kept w) stands))
+      pub is_told : RoomUp g start_disk w first made s s' before after → (r : Refusal) → IsKeptBy s.engine w.machine id r → EvictsTo g start_disk w first made s s' before after number name key (Refused r)
+      is_told x r (inl short) = is_short x r short
+      is_told x r (inr keeps) = is_kept x r (inl keeps)
 
 -- ---- which leaf it is
 
@@ -171,11 +171,11 @@ module _ {D : Type 0} (g : Ghosts D) (start_disk : D) (w : World) (first : Compl
   v = with_kept s.ground.kept w
 
   -- it stays for this reason
-  pub stays_told : (why : Stays) (r : Refusal) → LeafTold g start_disk v first made s s' before after id (Ok (StaysFor why)) → (WhyNotNow s'.engine id why → IsKeptBy s'.engine id r) → Stands s.engine v
+  pub stays_told : (why : Stays) (r : Refusal) → LeafTold g start_disk v first made s s' before after id (Ok (StaysFor why)) → ((u : World) → Stands s'.engine u → WhyNotNow s'.engine u.machine id why → IsKeptBy s'.engine u.machine id r) → Stands s.engine v
       → EvictsTo g start_disk w first made s s' before after number name key (Refused r)
   stays_told why r (x, (same, keeps)) told stands =
-      is_told g start_disk w first made number name key s s' before after look id leaf (room_up_as g start_disk w v.records first made s s' before after x) stands r
-      (subst (λ (e : Engine). IsKeptBy e id r) same (told (subst (λ (e : Engine). WhyNotNow e id why) (sym same) keeps)))
+      is_told g start_disk w first made number name key s s' before after look id leaf (room_up_as g start_disk w v.records first made s s' before after x) r
+      (subst (λ (e : Engine). IsKeptBy e w.machine id r) same (told v (subst (λ (e : Engine). Stands e v) (sym same) stands) (subst (λ (e : Engine). WhyNotNow e w.machine id why) (sym same) keeps)))
 
   -- it holds a version of a transaction that has not ended
   pub unresolved_told : (by : ℕ) → LeafTold g start_disk v first made s s' before after id (Ok (UnresolvedBy by)) → EvictsTo g start_disk w first made s s' before after number name key (Refused (Refusal_Busy (Busy_Unresolved by)))

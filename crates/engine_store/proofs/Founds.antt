@@ -129,8 +129,8 @@ module _ (a : Whole) (is_record : IsRecord a.record) (both : List TableEntries) 
     follows : FollowsFrom (Some old) s.engine.hub.tables.tables [] d.leaves written_now (places_in a.record.tables ps) no_name w
     follows = follows_from (Some old) s.engine.hub.tables.tables d.leaves written_now (places_in a.record.tables ps) w (starts_below (content_of old)) (part_own s.engine.hub.tables.tables d now.dir (marks_of a.record) written_now keep) same
 
-    pub found_above : s.ground.place ≡ place → s.ground.floor ≡ no_name → s.ground.lives ≡ [] → s.ground.history.items ≡ a.history.addrs.items → a.record.run < last_number → a.record.next_table + TABLES_MAX < 2 ^ 32 + length a.record.tables → IsFound bytes s
-    found_above place_is floor none stand run numbers = record {
+    pub found_above : s.ground.place ≡ place → s.running ≡ None → s.ground.floor ≡ no_name → s.ground.lives ≡ [] → s.ground.history.items ≡ a.history.addrs.items → a.record.run < last_number → a.record.next_table + TABLES_MAX < 2 ^ 32 + length a.record.tables → IsFound bytes s
+    found_above place_is idle floor none stand run numbers = record {
       old = Some old;
       numbers = (run, numbers);
       on = record {
@@ -143,6 +143,7 @@ module _ (a : Whole) (is_record : IsRecord a.record) (both : List TableEntries) 
         none = none;
         floor = floor;
       };
+      running = idle;
       shelf = on_shelf;
       world = still_first (content_of old) on_shelf (older_in on_shelf s.ground.kept) e s.engine now;
       bare = λ id late. bare bytes place a of both with recorded e unread kept keeps others id (let ids = goes.dir.ids in omega (arith, late, ids));
@@ -158,8 +159,8 @@ module _ (a : Whole) (is_record : IsRecord a.record) (both : List TableEntries) 
 
 -- ---- without one
 
-pub found_none : (bytes : List ℕ) (s : Store) → KeepsNone bytes s.ground.place → s.ground.number ≡ 0 → s.ground.trees.items ≡ [] → s.ground.parts ≡ [] → s.ground.floor ≡ no_name → s.ground.lives ≡ [] → s.ground.history.items ≡ [] → s.ground.kept ≡ [] → s.engine.hub.tables.tables ≡ [] → s.engine.hub.dir.leaves ≡ [] → Stands s.engine (first_world nothing no_shelf no_records s.engine) → IsFound bytes s
-found_none bytes s keeps number none parts floor unwritten stand kept known bare st = record {
+pub found_none : (bytes : List ℕ) (s : Store) → KeepsNone bytes s.ground.place → s.running ≡ None → s.ground.number ≡ 0 → s.ground.trees.items ≡ [] → s.ground.parts ≡ [] → s.ground.floor ≡ no_name → s.ground.lives ≡ [] → s.ground.history.items ≡ [] → s.ground.kept ≡ [] → s.engine.hub.tables.tables ≡ [] → s.engine.hub.dir.leaves ≡ [] → Stands s.engine (first_world nothing no_shelf no_records s.engine) → IsFound bytes s
+found_none bytes s keeps idle number none parts floor unwritten stand kept known bare st = record {
   old = None;
   numbers = tt;
   on = record {
@@ -175,6 +176,7 @@ found_none bytes s keeps number none parts floor unwritten stand kept known bare
     none = unwritten;
     floor = floor;
   };
+  running = idle;
   shelf = no_shelf;
   world = st_kept;
   bare = λ id late. refl;
@@ -219,6 +221,7 @@ opened_of bytes images s found = record {
   };
   floor = found.on.floor;
   none = none;
+  running = found.running;
   shelf = found.shelf;
   world = found.world;
   bare = found.bare;

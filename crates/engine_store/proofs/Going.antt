@@ -1,4 +1,4 @@
--- What steps and calls keep of a world: its last checkpoint, that none runs, its fault, what is before a floor, and what lies on the shelf and in the history.
+-- What steps and calls keep of a world: its last checkpoint, the one that runs, its fault, what is before a floor, what a snapshot does not see, and what lies on the shelf and in the history.
 use Rattle.std.proofs.Common.{◌≡◌, ◌∙◌, ℕ, zero, suc, List, [], ◌∷◌, Option, Some, None, get_or, set, refl, ap, sym, subst}
 use Rattle.std.specs.Prelude.{slice_index_or}
 use Rattle.wt_code.specs.declared.answers.Answer.{Answer}
@@ -24,15 +24,22 @@ use Rattle.ckpt_step.proofs.Floors.{goes_after, goes_on, goes_same}
 use Rattle.ckpt_step.proofs.Ordinary.{kept_keep, steps_keep}
 use Rattle.ckpt_step.proofs.StepCalls.{answers_so, kept_so, opens_more, steps}
 use Rattle.ckpt_step.proofs.WholeCalls.{Kept}
+use Rattle.engine_store.proofs.Apart.{GoesApart, apart_after, apart_on, apart_same}
 use Rattle.engine_store.proofs.MildWorlds.{mild_any, mild_call, mild_step, mild_world, ordinary_event}
 
 pub record Goes (w next : World) : Type 0 where
   pub keeps : Keeps w next
   pub machine : GoesOn w.machine next.machine
+  pub apart : GoesApart w.machine next.machine
   pub shelf : next.shelf ≡ w.shelf
 
 abbrev going : Kept ⊥
-going = record { To = GoesOn; same = goes_same; on = goes_on; by = λ m event quiet. goes_after m event (ordinary_event event quiet) }
+going = record {
+  To = λ m next. GoesOn m next × GoesApart m next;
+  same = λ m. (goes_same m, apart_same m);
+  on = λ m middle next one two. (goes_on m middle next one.0 two.0, apart_on m middle next one.1 two.1);
+  by = λ m event quiet. let ordinary = ordinary_event event quiet in (goes_after m event ordinary, apart_after m event ordinary);
+}
 
 pub goes_then : (a b c : World) → Goes a b → Goes b c → Goes a c
 goes_then a b c one two = record {
@@ -43,6 +50,7 @@ goes_then a b c one two = record {
     ordinary = two.keeps.ordinary;
   };
   machine = goes_on a.machine b.machine c.machine one.machine two.machine;
+  apart = apart_on a.machine b.machine c.machine one.apart two.apart;
   shelf = two.shelf ∙ one.shelf;
 }
 
@@ -104,6 +112,7 @@ pub goes_other : (w next : World) (q r : Records) → Goes w next → Goes (reco
 goes_other w next q r on = record {
   keeps = record { completed = on.keeps.completed; checkpoint = on.keeps.checkpoint; fault = on.keeps.fault; ordinary = record { doings = on.keeps.ordinary.doings; systems = on.keeps.ordinary.systems } };
   machine = on.machine;
+  apart = on.apart;
   shelf = on.shelf;
 }
 
@@ -112,26 +121,29 @@ goes_other w next q r on = record {
 pub goes_step : (w next : World) (step : Step) (told : Reply) → AreOrdinary w → IsOrdinaryStep step → MayStep w step told next → Goes w next
 goes_step w next step told are there may = record {
   keeps = steps_keep.0 w next step told are there may;
-  machine = (steps ⊥ going w next step told (mild_world w are) (mild_step step there) may).to;
+  machine = (steps ⊥ going w next step told (mild_world w are) (mild_step step there) may).to.0;
+  apart = (steps ⊥ going w next step told (mild_world w are) (mild_step step there) may).to.1;
   shelf = shelf_of w next (laid_step w next step told may);
 }
 
 pub goes_answer : (w next : World) (made : AnyCall) (answer : Answer (List ℕ)) → AreOrdinary w → IsOrdinaryCall made → MayAnswer w made answer next → Goes w next
 goes_answer w next made answer are there may = record {
   keeps = steps_keep.1 w next made answer are there may;
-  machine = (answers_so ⊥ going w next made answer (mild_world w are) (mild_any made there) may).to;
+  machine = (answers_so ⊥ going w next made answer (mild_world w are) (mild_any made there) may).to.0;
+  apart = (answers_so ⊥ going w next made answer (mild_world w are) (mild_any made there) may).to.1;
   shelf = shelf_of w next (laid_answer w next made answer may);
 }
 
 pub goes_kept : (kept : KeptBy) (w next : World) (session : ℕ) (made : Call) (answer : Answer (List ℕ)) → AreOrdinary w → IsOrdinary made → MayCallKept kept w session made answer next → Goes w next
 goes_kept kept w next session made answer are there may = record {
   keeps = kept_keep kept w next session made answer are there may;
-  machine = (kept_so ⊥ going kept w next session made answer (mild_world w are) (mild_call made there) may).to;
+  machine = (kept_so ⊥ going kept w next session made answer (mild_world w are) (mild_call made there) may).to.0;
+  apart = (kept_so ⊥ going kept w next session made answer (mild_world w are) (mild_call made there) may).to.1;
   shelf = shelf_of w next (laid_kept kept (doing_of w session) w session made answer next may);
 }
 
 pub goes_more : (w : World) → AreOrdinary w → Goes w (with_session_more w)
-goes_more w are = record { keeps = steps_keep.2 w are; machine = (opens_more ⊥ going w (mild_world w are)).to; shelf = refl }
+goes_more w are = record { keeps = steps_keep.2 w are; machine = (opens_more ⊥ going w (mild_world w are)).to.0; apart = (opens_more ⊥ going w (mild_world w are)).to.1; shelf = refl }
 
 -- ---- a call whose leaf is kept from it
 
@@ -170,5 +182,6 @@ goes_out w next session r are may =
         });
       };
       machine = subst (λ (x : Machine). GoesOn w.machine x) (sym m) (goes_same w.machine);
+      apart = subst (λ (x : Machine). GoesApart w.machine x) (sym m) (apart_same w.machine);
       shelf = ap (λ (x : World). x.shelf) may.leaves;
     }

@@ -34,13 +34,15 @@ use Rattle.engine_store.proofs.AllOut.{hub_out, out_on}
 use Rattle.engine_store.proofs.HubsGo.{goes_same}
 use Rattle.engine_store.proofs.KeptLeaves.{named_there}
 use Rattle.engine_store.proofs.Telling.{told_on}
+use Rattle.engine_store.proofs.UnderWayStill.{runs_ground, runs_same}
 
 module _ {D : Type 0} (g : Ghosts D) where
   -- ---- none, some, and then others
 
-  pub none_out : (s s' : Store) → s'.engine ≡ s.engine → s'.ground ≡ s.ground → s'.frames ≡ s.frames → GoOut g s s'
-  none_out s s' engine ground frames = record {
+  pub none_out : (s s' : Store) → s'.engine ≡ s.engine → s'.ground ≡ s.ground → s'.running ≡ s.running → s'.frames ≡ s.frames → GoOut g s s'
+  none_out s s' engine ground running frames = record {
     ground = ground;
+    running = running;
     frames = frames;
     sessions = ap (λ (e : Engine). e.sessions) engine;
     hub = subst (λ (e : Engine). e.hub ≡ record s.engine.hub { dir = e.hub.dir }) (sym engine) refl;
@@ -56,6 +58,7 @@ module _ {D : Type 0} (g : Ghosts D) where
   pub out_then : (a b c : Store) → GoOut g a b → GoOut g b c → GoOut g a c
   out_then a b c one two = record {
     ground = two.ground ∙ one.ground;
+    running = two.running ∙ one.running;
     frames = two.frames ∙ one.frames;
     sessions = two.sessions ∙ one.sessions;
     hub = two.hub ∙ ap (λ (h : Hub). record h { dir = c.engine.hub.dir }) one.hub;
@@ -83,6 +86,7 @@ module _ {D : Type 0} (g : Ghosts D) where
     pub has_gone : GoOut g s (record s { engine = e })
     has_gone = record {
       ground = refl;
+      running = refl;
       frames = refl;
       sessions = ap (λ (x : Engine). x.sessions) gone.is;
       hub = subst (λ (x : Engine). x.hub ≡ record s.engine.hub { dir = x.hub.dir }) (sym gone.is) refl;
@@ -100,8 +104,8 @@ module _ {D : Type 0} (g : Ghosts D) where
   pub gone_or_not : (law : (disk : D) → GroundsLetGo (g.seen disk) (g.may_leave disk)) (s : Store) (e : Engine) (id : ℕ) (whole : IsWhole s id) (dir : IsDirectory s.engine.hub.dir) (stands : (w : World) → Stands s.engine w → Stands e w) (result : Result Bool NoMemory)
       → IfOk result (λ out. IsTrue out → HasGoneOut s.engine e id) → IfOk result (λ out. out ≡ false → (MayGoOut s.engine id → ⊥) × (e ≡ s.engine)) → OnErr result (e ≡ s.engine) → GoOut g s (record s { engine = e })
   gone_or_not law s e id whole dir stands (Ok true) out not kept = has_gone law s e id whole (out refl) dir stands
-  gone_or_not law s e id whole dir stands (Ok false) out not kept = none_out s (record s { engine = e }) (not refl).1 refl refl
-  gone_or_not law s e id whole dir stands (Err none) out not kept = none_out s (record s { engine = e }) kept refl refl
+  gone_or_not law s e id whole dir stands (Ok false) out not kept = none_out s (record s { engine = e }) (not refl).1 refl refl refl
+  gone_or_not law s e id whole dir stands (Err none) out not kept = none_out s (record s { engine = e }) kept refl refl refl
 
   -- ---- what holds between two calls
 
@@ -109,7 +113,7 @@ module _ {D : Type 0} (g : Ghosts D) where
     held_in_out : (start disk : D) (w : World) (first : Completed) (made : List Installed) → IsHeldIn g start s disk w first made → IsHeldIn g start s' disk w first made
     held_in_out start disk w first made held = record {
       stands = out.stands w held.stands;
-      idle = held.idle;
+      running = runs_same s'.ground s.running s'.running w.machine out.running (runs_ground s.ground s'.ground s.running w.machine (ap (λ (x : Ground). x.number) out.ground) (ap (λ (x : Ground). x.floor) out.ground) held.running);
       kept = subst (λ (x : Ground). KeepsThese w x.kept) (sym out.ground) held.kept;
       bare = λ id late. held.bare id (let ids = (out.goes s.engine.hub (hub_out s.engine.hub s.engine.hub (goes_same s.engine.hub held.stands.owned))).dir.ids in omega (arith, late, ids));
       on = λ up.
@@ -147,6 +151,7 @@ module _ {D : Type 0} (g : Ghosts D) where
       keeps_out keeps = record {
         ready = λ ready. ready_out (keeps.ready ready);
         ground = out.ground ∙ (keeps.ground ∙ ap (λ (x : Ground). let ground : Ground = record first.ground { kept = x.kept } in ground) (sym out.ground));
+        running = out.running ∙ keeps.running;
         frames = out.frames ∙ keeps.frames;
         looked = keeps.looked;
         home = keeps.home;

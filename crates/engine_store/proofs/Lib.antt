@@ -33,11 +33,16 @@ pub mod Closings
 pub mod Contents
 pub mod Installing
 pub mod Relieving
+pub mod Begun
+pub mod BarredNow
+pub mod CheckpointEnds
 pub mod Taking
 pub mod WritingOut
 pub mod Shutting
 pub mod Reopening
 pub mod MildWorlds
+pub mod Apart
+pub mod UnderWayStill
 pub mod Going
 pub mod Backed
 pub mod LowKeys

@@ -37,36 +37,39 @@ use Rattle.ckpt_step.specs.WritesOut.{FallenOut, NotWritten, WhyNotOut}
 use Rattle.engine_store.specs.declared.store.Store.{Store}
 use Rattle.engine_store.specs.Devices.{Installed, IsLater, IsNumberOf, KeepsCheckpoint, device_of, may_open_to}
 use Rattle.engine_store.specs.Held.{IsGrounded, IsHeld, IsHeldIn}
+use Rattle.engine_store.specs.Running.{RunsOver}
 use Rattle.engine_store.specs.Room.{MakesRoom, RoomAlike, RoomDown, RoomMade, RoomOf, RoomUp}
 use Rattle.engine_store.proofs.Contents.{numbered}
 use Rattle.engine_store.proofs.CutShelves.{below, changed_there, cut, cut_past, follows_cut, kept_parted, on_cut, stands_cut}
 use Rattle.engine_store.proofs.GoingOut.{held_out, none_out}
 use Rattle.engine_store.proofs.OtherRecords.{held_kept, keeps_at}
 use Rattle.engine_store.proofs.Taking.{kept_held}
+use Rattle.engine_store.proofs.UnderWayStill.{runs_down}
 use Rattle.engine_store.proofs.WritingOut.{alike_then, still_later}
 
 -- ---- none is, but that the hand went on
 
 module _ {D : Type 0} (g : Ghosts D) where
-  pub still_up : (s s' : Store) → s'.engine ≡ s.engine → s'.ground ≡ s.ground → s'.frames ≡ s.frames → (start disk : D) (w : World) (first : Completed) (made : List Installed) → IsHeld g start s disk w first made → RoomUp g start w first made s s' disk disk
-  still_up s s' engine ground frames start disk w first made held = record {
+  pub still_up : (s s' : Store) → s'.engine ≡ s.engine → s'.ground ≡ s.ground → s'.running ≡ s.running → s'.frames ≡ s.frames → (start disk : D) (w : World) (first : Completed) (made : List Installed) → IsHeld g start s disk w first made → RoomUp g start w first made s s' disk disk
+  still_up s s' engine ground running frames start disk w first made held = record {
     room = record {
       shelf = w.shelf;
       again = w.again;
       more = λ session is. is;
       later = record { faults = omega arith; moment = omega arith };
       capacity = refl;
-      held = held_out g s s' (none_out g s s' engine ground frames) start disk w first made held;
+      held = held_out g s s' (none_out g s s' engine ground running frames) start disk w first made held;
     };
     keeps = record { capacity = refl; checkpoint = λ o has. has };
   }
 
-  pub still_room : (s s' : Store) → s'.engine ≡ s.engine → s'.ground ≡ s.ground → s'.frames ≡ s.frames → (disk : D) → MakesRoom g s s' disk disk
-  still_room s s' engine ground frames disk honest start w first made held = inl (still_up s s' engine ground frames start disk w first made held)
+  pub still_room : (s s' : Store) → s'.engine ≡ s.engine → s'.ground ≡ s.ground → s'.running ≡ s.running → s'.frames ≡ s.frames → (disk : D) → MakesRoom g s s' disk disk
+  still_room s s' engine ground running frames disk honest start w first made held = inl (still_up s s' engine ground running frames start disk w first made held)
 
-  pub still_alike : (s s' : Store) → s'.engine ≡ s.engine → s'.ground ≡ s.ground → s'.frames ≡ s.frames → (disk : D) → RoomAlike g s s' disk disk
-  still_alike s s' engine ground frames disk = record {
+  pub still_alike : (s s' : Store) → s'.engine ≡ s.engine → s'.ground ≡ s.ground → s'.running ≡ s.running → s'.frames ≡ s.frames → (disk : D) → RoomAlike g s s' disk disk
+  still_alike s s' engine ground running frames disk = record {
     alike = record {
+      running = running;
       frames = frames;
       sessions = ap (λ (e : Engine). e.sessions) engine;
       tables = ap (λ (e : Engine). e.hub.tables) engine;
@@ -133,7 +136,7 @@ module _ {D : Type 0} (g : Ghosts D) (start_disk : D) (w : World) (first : Compl
   WhyEvicted Done = MayBeEvicted s.engine id
   WhyEvicted Parted = MayBeEvicted s.engine id
   WhyEvicted Emptied = MayBeEvicted s.engine id
-  WhyEvicted (Stays why) = (s'.engine ≡ s.engine) × WhyNotNow s.engine id why
+  WhyEvicted (Stays why) = (s'.engine ≡ s.engine) × WhyNotNow s.engine w.machine id why
   WhyEvicted (Unresolved by) = (s'.engine ≡ s.engine) × IsLeastUnended s.engine w.machine id by
   WhyEvicted _ = s'.engine ≡ s.engine
 
@@ -151,7 +154,7 @@ or_later false b is = is
 
 module _ {D : Type 0} (g : Ghosts D) (start_disk before after : D)
     (counts : g.moment before ≤ g.moment after → (c : List ℕ) → g.may_leave after c → g.left_since after (g.moment before) c) (only : (c : List ℕ) → g.left_since after (g.moment after) c → g.may_leave after c)
-    (image : g.may_leave before (g.seen before)) (s s' : Store) (frames : s'.frames ≡ s.frames) (w : World) (first : Completed) (made : List Installed) (held : IsHeldIn g start_disk s before w first made)
+    (image : g.may_leave before (g.seen before)) (s s' : Store) (frames : s'.frames ≡ s.frames) (running : s'.running ≡ s.running) (over : (m : Machine) → RunsOver s.ground s.running m → RunsOver s'.ground s'.running m) (w : World) (first : Completed) (made : List Installed) (held : IsHeldIn g start_disk s before w first made)
     (disk : SameDisk g before after) (downs : DownsGo) (id : ℕ) where
   abbrev Made : Type 0
   Made = RoomOf g start_disk w first made s s' before after
@@ -179,7 +182,7 @@ module _ {D : Type 0} (g : Ghosts D) (start_disk before after : D)
         more = more;
         later = is_later left;
         capacity = disk.room;
-        held = held_kept g start_disk after s' (record w { shelf = shelf; records = records; again = again }) first made (kept_held g start_disk before after counts only image s s' w first made held grounded (record w { shelf = shelf; records = records; again = again }) stands keeps_these bare held.idle refl left (λ up. (on, follows, since)));
+        held = held_kept g start_disk after s' (record w { shelf = shelf; records = records; again = again }) first made (kept_held g start_disk before after counts only image s s' w first made held grounded (record w { shelf = shelf; records = records; again = again }) stands keeps_these bare (over w.machine held.running) refl left (λ up. (on, follows, since)));
       };
       keeps = keeps on.stands.seen_has;
     }
@@ -242,7 +245,7 @@ module _ {D : Type 0} (g : Ghosts D) (start_disk before after : D)
             more = λ session is. is;
             later = is_later f.left;
             capacity = disk.room;
-            held = held_kept g start_disk after s' down first made (kept_held g start_disk before after counts only image s s' w first made held grounded down (subst (λ (e : Engine). Stands e down) (sym f.down) (downs s.engine w f.fault held.stands)) keeps_these (λ id late. held.bare id (subst (λ (e : Engine). e.hub.dir.next ≤ id) f.down late)) held.idle refl f.left (λ up. absurd (not_up f.fault up)));
+            held = held_kept g start_disk after s' down first made (kept_held g start_disk before after counts only image s s' w first made held grounded down (subst (λ (e : Engine). Stands e down) (sym f.down) (downs s.engine w f.fault held.stands)) keeps_these (λ id late. held.bare id (subst (λ (e : Engine). e.hub.dir.next ≤ id) f.down late)) (runs_down s'.ground s'.running w.machine f.fault held.stands.valid (downs s.engine w f.fault held.stands).valid (over w.machine held.running)) refl f.left (λ up. absurd (not_up f.fault up)));
           };
         }
       where
@@ -280,7 +283,7 @@ module _ {D : Type 0} (g : Ghosts D) (start_disk before after : D)
     by_fault None up = let on = held.on up in by_result on result (evicts on.old on.on on.follows on.since) still
     by_fault (Some fault) fell =
         let t = down fault (held.stands.fault ∙ fell) in
-        subst (λ (d : D). RoomOf g start_disk w first made s s' before d) (sym t.3) (inl (still_up g s s' t.1 t.2 frames start_disk before w first made (held_kept g start_disk before s w first made held)))
+        subst (λ (d : D). RoomOf g start_disk w first made s s' before d) (sym t.3) (inl (still_up g s s' t.1 t.2 running frames start_disk before w first made (held_kept g start_disk before s w first made held)))
 
     pub leaf_room : Made
     leaf_room = by_fault w.machine.fault refl
@@ -290,9 +293,9 @@ module _ {D : Type 0} (g : Ghosts D) (start_disk before after : D)
     leaf_told up = let on = held.on up in told_by on result (evicts on.old on.on on.follows on.since) still
 
 -- whatever the disk
-pub leaf_alike : {D : Type 0} (g : Ghosts D) (s s' : Store) (before after : D) → s'.frames ≡ s.frames → s'.ground.number ≡ s.ground.number → s'.ground.trees ≡ s.ground.trees → SameDisk g before after
+pub leaf_alike : {D : Type 0} (g : Ghosts D) (s s' : Store) (before after : D) → s'.running ≡ s.running → s'.frames ≡ s.frames → s'.ground.number ≡ s.ground.number → s'.ground.trees ≡ s.ground.trees → SameDisk g before after
     → (s'.engine.hub.tables ≡ s.engine.hub.tables) × (s'.engine.hub.txns ≡ s.engine.hub.txns) → (id : ℕ) (result : Result Evicted Refusal) → EvictsEngine s.engine s'.engine id result → RoomAlike g s s' before after
-leaf_alike g s s' before after frames number trees disk hub id result evicts = record { alike = record { frames = frames; sessions = by result evicts; tables = hub.0; txns = hub.1; number = number; trees = trees }; disk = disk }
+leaf_alike g s s' before after running frames number trees disk hub id result evicts = record { alike = record { running = running; frames = frames; sessions = by result evicts; tables = hub.0; txns = hub.1; number = number; trees = trees }; disk = disk }
   where
     same : s'.engine ≡ s.engine → s'.engine.sessions ≡ s.engine.sessions
     same is = ap (λ (e : Engine). e.sessions) is
@@ -312,12 +315,12 @@ pub record RoomSoFar {D : Type 0} (g : Ghosts D) (a b : Store) (before now : D) 
   pub room : MakesRoom g a b before now
   pub alike : RoomAlike g a b before now
 
-module _ {D : Type 0} (g : Ghosts D) (a b b' : Store) (before mid : D) (so_far : RoomSoFar g a b before mid) (engine : b'.engine ≡ b.engine) (ground : b'.ground ≡ b.ground) (frames : b'.frames ≡ b.frames) where
+module _ {D : Type 0} (g : Ghosts D) (a b b' : Store) (before mid : D) (so_far : RoomSoFar g a b before mid) (engine : b'.engine ≡ b.engine) (ground : b'.ground ≡ b.ground) (running : b'.running ≡ b.running) (frames : b'.frames ≡ b.frames) where
   -- the hand went on
   pub room_passed : RoomSoFar g a b' before mid
   room_passed = record {
-    room = makes_more g a b b' before mid mid so_far.alike.disk.same so_far.room (still_room g b b' engine ground frames mid);
-    alike = alike_more g a b b' before mid mid so_far.alike (still_alike g b b' engine ground frames mid);
+    room = makes_more g a b b' before mid mid so_far.alike.disk.same so_far.room (still_room g b b' engine ground running frames mid);
+    alike = alike_more g a b b' before mid mid so_far.alike (still_alike g b b' engine ground running frames mid);
   }
 
   -- and then a leaf was evicted, or stayed

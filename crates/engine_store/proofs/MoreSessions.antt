@@ -31,6 +31,6 @@ module _ {D : Type 0} (g : Ghosts D) where
       → IfOk result (λ n. (n ≡ length s.engine.sessions) × Stands e (with_session_more (with_kept s.ground.kept w))) → OnErr result (e ≡ s.engine) → HubGoesOn s.engine.hub e.hub → MayOpen g start w first made s (with_engine s e) disk disk result
   opens start disk s e w first made (Ok number) held built opened kept goes = record {
     number_is = opened.0;
-    held = held_goes g s (with_engine s e) disk disk (looked_none g disk) goes refl start (with_kept s.ground.kept w) (with_session_more (with_kept s.ground.kept w)) first made opened.1 held.kept (goes_more (with_kept s.ground.kept w) (engines_are s.engine (with_kept s.ground.kept w) held.stands built)) held;
+    held = held_goes g s (with_engine s e) disk disk (looked_none g disk) goes refl refl start (with_kept s.ground.kept w) (with_session_more (with_kept s.ground.kept w)) first made opened.1 held.kept (goes_more (with_kept s.ground.kept w) (engines_are s.engine (with_kept s.ground.kept w) held.stands built)) held;
   }
   opens start disk s e w first made (Err r) held built opened kept goes = same_store s e kept

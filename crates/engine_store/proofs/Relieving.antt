@@ -22,7 +22,7 @@ module _ {D : Type 0} (g : Ghosts D) where
   -- none does
   pub stays : (s : Store) → LetsGo g s s
   stays s = record {
-    alike = record { frames = refl; sessions = refl; tables = refl; txns = refl; number = refl; trees = refl };
+    alike = record { running = refl; frames = refl; sessions = refl; tables = refl; txns = refl; number = refl; trees = refl };
     kept = refl;
     relieves = λ disk old w stands idle on follows none newest. record { shelf = w.shelf; stands = stands; on = on; follows = follows; none = none; ids = omega arith; same = λ id less. refl };
   }
@@ -31,6 +31,7 @@ module _ {D : Type 0} (g : Ghosts D) where
   pub goes_then : (a b c : Store) → LetsGo g a b → LetsGo g b c → LetsGo g a c
   goes_then a b c one two = record {
     alike = record {
+      running = two.alike.running ∙ one.alike.running;
       frames = two.alike.frames ∙ one.alike.frames;
       sessions = two.alike.sessions ∙ one.alike.sessions;
       tables = two.alike.tables ∙ one.alike.tables;
@@ -64,6 +65,7 @@ module _ {D : Type 0} (g : Ghosts D) where
     pub gave : LetsGo g s (record s { engine = e; ground = ground })
     gave = record {
       alike = record {
+        running = refl;
         frames = refl;
         sessions = ap (λ (x : Engine). x.sessions) way.is;
         tables = ap (λ (x : Engine). x.hub.tables) way.is;

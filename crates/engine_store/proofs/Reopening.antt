@@ -26,6 +26,7 @@ use Rattle.engine_store.proofs.Installing.{past_later, stays_on}
 use Rattle.engine_store.proofs.NoLives.{none_on}
 use Rattle.engine_store.proofs.OtherRecords.{held_kept}
 use Rattle.engine_store.proofs.Refusing.{spoilt_no_content}
+use Rattle.engine_store.proofs.UnderWayStill.{none_runs}
 
 -- ---- a device that was only looked at
 
@@ -44,7 +45,7 @@ module _ {D : Type 0} (g : Ghosts D) (start_disk before after : D) (looked : Loo
   held_looked : IsHeldIn g start_disk s after w first made
   held_looked = record {
     stands = held.stands;
-    idle = held.idle;
+    running = held.running;
     kept = held.kept;
     bare = held.bare;
     on = λ up. let on = held.on up in record {
@@ -93,7 +94,7 @@ module _ {D : Type 0} (g : Ghosts D) (start_disk before after : D) (looked : Loo
     held_reopened : IsHeldIn g start_disk s' after (begun_with content is.shelf s') first made
     held_reopened = record {
       stands = is.world;
-      idle = refl;
+      running = none_runs s'.ground s'.running (start content) is.running refl;
       kept = λ leaf key. refl;
       bare = is.bare;
       on = λ up. record { old = is.old; on = is.on; follows = is.follows; since = none_on (g.seen after) s'.engine.hub s'.ground (begun_with content is.shelf s') is.none; opens = opens; one = one };

@@ -40,6 +40,7 @@ pub record GoneOn {D : Type 0} (g : Ghosts D) (first disk : D) (s s' : Store) (m
   pub goes : (h : Hub) → HubGoesOn h s.engine.hub → HubGoesOn h s'.engine.hub
   pub fault : s'.engine.hub.fault ≡ s.engine.hub.fault
   pub ground : IsSameButKept s.ground s'.ground
+  pub running : s'.running ≡ s.running
   pub frames : s'.frames ≡ s.frames
   pub sessions : length s'.engine.sessions ≡ length s.engine.sessions
   pub looked : Looked g first disk
@@ -54,6 +55,7 @@ gone_none g disk s made session waits = record {
   goes = λ h on. on;
   fault = refl;
   ground = refl;
+  running = refl;
   frames = refl;
   sessions = refl;
   looked = looked_none g disk;
@@ -68,6 +70,7 @@ pub record OneRound {D : Type 0} (g : Ghosts D) (disk disk' : D) (s s' : Store) 
   pub waits : WaitsAs now s'.engine session
   pub goes : HubGoesOn s.engine.hub s'.engine.hub
   pub ground : IsSameButKept s.ground s'.ground
+  pub running : s'.running ≡ s.running
   pub frames : s'.frames ≡ s.frames
   pub sessions : length s'.engine.sessions ≡ length s.engine.sessions
   pub looked : Looked g disk disk'
@@ -118,6 +121,7 @@ module _ {D : Type 0} (g : Ghosts D) (first disk disk' : D) (s s' s'' : Store) (
     goes = λ h on. goes-then h s'.engine.hub s''.engine.hub (gone.goes h on) one.goes;
     fault = one.goes.fault ∙ gone.fault;
     ground = kept_more s.ground s'.ground s''.ground gone.ground one.ground;
+    running = one.running ∙ gone.running;
     frames = one.frames ∙ gone.frames;
     sessions = one.sessions ∙ gone.sessions;
     looked = looked_then g first disk disk' gone.looked one.looked;

@@ -33,7 +33,7 @@ use Rattle.ckpt_step.specs.Floors.{AreLivesOn, Follows}
 use Rattle.ckpt_step.specs.Grounds.{StandsOn}
 use Rattle.ckpt_step.specs.declared.ground.Ground.{Ground}
 use Rattle.ckpt_step.specs.declared.lives.Lone.{Lone}
-use Rattle.ckpt_content.specs.Laws.{ReadCheckpointsOpen}
+use Rattle.ckpt_content.specs.Laws.{ReadFinishesOpen}
 use Rattle.ckpt_step.proofs.Floors.{goes_rolled}
 use Rattle.ckpt_step.proofs.Staying.{grounds_stay}
 use Rattle.ckpt_step.specs.Takes.{Takes}
@@ -47,6 +47,7 @@ use Rattle.engine_store.proofs.Closings.{StaysSo, free_of, stays_rolled, up_of}
 use Rattle.engine_store.proofs.Contents.{most_number}
 use Rattle.engine_store.proofs.OtherRecords.{held_kept}
 use Rattle.engine_store.proofs.Taking.{by_takes, number_held}
+use Rattle.engine_store.proofs.UnderWayStill.{none_runs, runs_none}
 
 -- ---- what is decided
 
@@ -235,9 +236,12 @@ module _ {D : Type 0} (g : Ghosts D) (start_disk before : D) (image : g.may_leav
         none = λ none. none;
       }))
 
-  module _ (may : MayClose w) (middle : Engine) (stands : Stands middle (rolled w)) (hub : HubGoesOn s.engine.hub middle.hub) where
+  module _ (free : s.running ≡ None) (may : MayClose w) (middle : Engine) (stands : Stands middle (rolled w)) (hub : HubGoesOn s.engine.hub middle.hub) where
     stay : StaysSo w.machine (rolled_back w.machine)
     stay = stays_rolled w.machine
+
+    idle : w.machine.checkpoint ≡ None
+    idle = runs_none s.ground s.running w.machine free held.running
 
     abbrev s1 : Store
     s1 = with_rolled s middle
@@ -260,7 +264,7 @@ module _ {D : Type 0} (g : Ghosts D) (start_disk before : D) (image : g.may_leav
     held_rolled : IsHeldIn g start_disk s1 before (rolled w) first made
     held_rolled = record {
       stands = stands;
-      idle = stay.checkpoint ∙ held.idle;
+      running = none_runs s.ground s.running (rolled_back w.machine) free (stay.checkpoint ∙ idle);
       kept = held.kept;
       bare = λ id late. held.bare id (let ids = hub.dir.ids in omega (arith, late, ids));
       on = λ up. grounded_rolled (held.on (sym stay.fault ∙ up));
@@ -272,17 +276,17 @@ module _ {D : Type 0} (g : Ghosts D) (start_disk before : D) (image : g.may_leav
     }
 
     module _ (after : D) (counts : g.moment before ≤ g.moment after → (c : List ℕ) → g.may_leave after c → g.left_since after (g.moment before) c) (only : (c : List ℕ) → g.left_since after (g.moment after) c → g.may_leave after c)
-        (count : g.faults before ≤ g.faults after) (room : g.capacity after ≡ g.capacity before) (law : ReadCheckpointsOpen) (downs : DownsGo) (s' : Store) (result : Result (Unit {0}) Refusal) where
+        (count : g.faults before ≤ g.faults after) (room : g.capacity after ≡ g.capacity before) (law : ReadFinishesOpen) (downs : DownsGo) (s' : Store) (result : Result (Unit {0}) Refusal) where
       from_checkpoint : CheckpointsOn g start_disk (rolled w) first made s1 s' before after w.shelf result → Shuts g start_disk w first made s s' before after result
       from_checkpoint t = record {
         next = t.next;
         now = t.now;
         behind = t.behind;
-        takes = closes_by s.ground.lives (device_of g before) (device_of g after) on_rolled.old on_rolled.on.stands.seen_has w may held.idle (answer_of result) t.next t.takes;
+        takes = closes_by s.ground.lives (device_of g before) (device_of g after) on_rolled.old on_rolled.on.stands.seen_has w may idle (answer_of result) t.next t.takes;
         installs = t.installs;
         held = t.held;
         none = t.none;
       }
 
-      pub shuts_by : OnErr result (s'.ground.lives ≡ s.ground.lives) → s'.ground.kept ≡ s.ground.kept → ((old : Option Stored) → StandsOn (g.seen before) (g.may_leave before) middle.hub s.ground old → Follows old middle.hub s.ground (rolled w) → AreLivesOn (g.seen before) middle.hub s.ground (rolled w) → Takes g old (rolled w) s.ground s'.ground middle s'.engine before after result) → Shuts g start_disk w first made s s' before after result
-      shuts_by lives kept takes = from_checkpoint (by_takes g start_disk before after counts only image s1 s' (rolled w) first made held_rolled on_rolled kept count room law downs result lives (takes on_rolled.old on_rolled.on on_rolled.follows on_rolled.since))
+      pub shuts_by : s'.running ≡ None → OnErr result (s'.ground.lives ≡ s.ground.lives) → s'.ground.kept ≡ s.ground.kept → ((old : Option Stored) → StandsOn (g.seen before) (g.may_leave before) middle.hub s.ground old → Follows old middle.hub s.ground (rolled w) → AreLivesOn (g.seen before) middle.hub s.ground (rolled w) → Takes g old (rolled w) s.ground s'.ground middle s'.engine before after result) → Shuts g start_disk w first made s s' before after result
+      shuts_by none lives kept takes = from_checkpoint (by_takes g start_disk before after counts only image s1 s' (rolled w) first made held_rolled on_rolled (stay.checkpoint ∙ idle) none kept count room law downs result lives (takes on_rolled.old on_rolled.on on_rolled.follows on_rolled.since))

@@ -34,6 +34,7 @@ pub record StepsOn {D : Type 0} (g : Ghosts D) (s s' : Store) (before after : D)
   pub led : IsTrue (g.honest before) → (w : World) → IsReached g s before w w → (later : World) × MayStepOn (CauseSince g before after s.frames w) w made told later × Stands s'.engine (with_kept s'.ground.kept later) × Goes w later
   pub hub : HubGoesOn s.engine.hub s'.engine.hub
   pub ground : IsSameButKept s.ground s'.ground
+  pub running : s'.running ≡ s.running
   pub frames : s'.frames ≡ s.frames
   pub looked : Looked g before after
   pub home : g.home after ≡ g.home before
@@ -82,12 +83,13 @@ module _ {D : Type 0} (g : Ghosts D) (s s' : Store) (before after : D) (made : S
   pub step_held : IsTrue (g.honest before) → (start : D) (w : World) (first : Completed) (installed : List Installed) → IsHeld g start s before w first installed → Stepped g start w first installed s s' before after made told
   step_held honest start w first installed held =
       let l = x.led honest w (reached_first g s before w held.stands (backed_held g start before s w first installed held)) in
-      record { later = l.0; stepped = l.1; held = held_goes g s s' before after x.looked x.hub x.ground start (with_kept s.ground.kept w) (with_kept s'.ground.kept l.0) first installed l.2 (λ leaf key. refl) (goes_other w l.0 (with_kept s.ground.kept w).records (with_kept s'.ground.kept l.0).records l.3) held }
+      record { later = l.0; stepped = l.1; held = held_goes g s s' before after x.looked x.hub x.ground x.running start (with_kept s.ground.kept w) (with_kept s'.ground.kept l.0) first installed l.2 (λ leaf key. refl) (goes_other w l.0 (with_kept s.ground.kept w).records (with_kept s'.ground.kept l.0).records l.3) held }
 
   pub step_keeps : CallKeeps g s s' before after
   step_keeps = record {
     ready = ready_goes s s' x.hub x.ground;
     ground = x.ground;
+    running = x.running;
     frames = x.frames;
     looked = x.looked;
     home = x.home;

@@ -22,7 +22,7 @@ module _ {D : Type 0} (g : Ghosts D) (disk : D) (s : Store) (e : Engine) (goes :
   pub event_held : (start : D) (w later : World) (first : Completed) (made : List Installed) → Stands e later → laid_of later ≡ laid_of (with_kept s.ground.kept w) → Goes (with_kept s.ground.kept w) later → IsHeld g start s disk w first made → IsHeld g start (with_engine s e) disk (other_records w.records later) first made
   event_held start w later first made stands laid on held =
       subst (λ (v : World). IsHeldIn g start (with_engine s e) disk v first made) (same_kept s.ground.kept w later laid)
-      (held_goes g s (with_engine s e) disk disk (looked_none g disk) goes refl start (with_kept s.ground.kept w) later first made stands (keeps_laid s.ground.kept (with_kept s.ground.kept w) later laid (λ leaf key. refl)) on held)
+      (held_goes g s (with_engine s e) disk disk (looked_none g disk) goes refl refl start (with_kept s.ground.kept w) later first made stands (keeps_laid s.ground.kept (with_kept s.ground.kept w) later laid (λ leaf key. refl)) on held)
 
   pub event_keeps : CallKeeps g s (with_engine s e) disk disk
-  event_keeps = record { ready = ready_goes s (with_engine s e) goes refl; ground = refl; frames = refl; looked = looked_none g disk; home = refl }
+  event_keeps = record { ready = ready_goes s (with_engine s e) goes refl; ground = refl; running = refl; frames = refl; looked = looked_none g disk; home = refl }

@@ -13,7 +13,7 @@ use Rattle.wt_code.specs.declared.refusals.Refusal.TheVariants.{DiskFault, Panic
 use Rattle.kv_model.specs.Content.{Content, OpensAs}
 use Rattle.kv_model.specs.Decisions.{StartCall}
 use Rattle.kv_model.specs.History.{Table, tables}
-use Rattle.kv_model.specs.Machine.{Machine, Completed, GoDown, after as after_event}
+use Rattle.kv_model.specs.Machine.{Machine, Completed, CheckpointStart, GoDown, after as after_event}
 use Rattle.kv_model.specs.Outside.{Stored as StoredWhole, NoPlace, ReadFailed, WriteFailed}
 use Rattle.row_page.specs.Rows.{Row}
 use Rattle.stored.specs.Opens.{Opens}
@@ -27,15 +27,15 @@ use Rattle.engine_world.specs.Systems.{DownsGo, checkpointed, with_fault}
 use Rattle.engine_world.specs.Worlds.{World}
 use Rattle.engine_world.proofs.HubMoves.{decided-down}
 use Rattle.engine.specs.Checkpoints.{MayStart}
+use Rattle.engine.specs.declared.running_checkpoint.RunningCheckpoint.{RunningCheckpoint}
 use Rattle.evict_step.specs.Kept.{KeepsThese, Lists}
 use Rattle.ckpt_step.specs.declared.ground.Ground.{Ground}
-use Rattle.ckpt_content.specs.Checkpoints.{IsCheckpointOf}
-use Rattle.ckpt_content.specs.Laws.{ReadCheckpointsOpen}
+use Rattle.ckpt_content.specs.Laws.{ReadFinishesOpen}
 use Rattle.ckpt_step.specs.Floors.{AreLivesOn, Follows}
 use Rattle.ckpt_step.specs.Giving.{CheckpointsHaveNewest, HasNewest}
 use Rattle.ckpt_step.specs.Grounds.{AreLedTo, AreRoots, StandsOn, number_of}
 use Rattle.ckpt_step.specs.Rooms.{known_in}
-use Rattle.ckpt_step.specs.Takes.{Fallen, NotTaken, Taken, Takes, WhyNot}
+use Rattle.ckpt_step.specs.Takes.{Fallen, IsWholeOf, NotTaken, Taken, Takes, WhyNot, begun}
 use Rattle.engine_store.specs.declared.eviction.Clock.{Clock}
 use Rattle.engine_store.specs.declared.frames.Frames.{Frames}
 use Rattle.engine_store.specs.declared.store.Store.{Store}
@@ -43,12 +43,15 @@ use Rattle.engine_store.specs.Answers.{CheckpointTakes}
 use Rattle.engine_store.specs.Devices.{ArePartedOn, Installed, IsLater, IsNumberOf, device_of, may_open_to}
 use Rattle.engine_store.specs.Held.{Checkpoints, CheckpointsOn, IsGrounded, IsHeldIn}
 use Rattle.engine_store.specs.Images.{OpensToAny, OpensToLast, OpensToOne}
+use Rattle.engine_store.specs.Running.{RunsOver}
 use Rattle.engine_store.specs.Relieves.{IsRelieved, LetsGo}
+use Rattle.engine_store.proofs.Begun.{valid_begun}
 use Rattle.engine_store.proofs.Contents.{number_read, numbered, still_reads}
 use Rattle.engine_store.proofs.CutShelves.{cut, cut_past, follows_cut, kept_cut, stands_cut}
 use Rattle.engine_store.proofs.NoLives.{none_on}
 use Rattle.engine_store.proofs.OtherRecords.{held_kept}
 use Rattle.engine_store.proofs.Installing.{any_last, any_more, any_one, last_opens, one_last, one_more, past_later, past_more, pending_last, stays_more, stays_on}
+use Rattle.engine_store.proofs.UnderWayStill.{none_runs, runs_none}
 
 -- ---- of an engine that is up
 
@@ -81,11 +84,11 @@ module _ {D : Type 0} (g : Ghosts D) (start_disk before after : D)
   last_on kept (inr (pending, there, each)) = inr (pending, there, λ c left. old_opens c (old_now kept c left))
 
   -- nothing was installed
-  pub kept_held : (next : World) → Stands s'.engine next → KeepsThese next s'.ground.kept → ((id : ℕ) → s'.engine.hub.dir.next ≤ id → next.shelf id ≡ []) → next.machine.checkpoint ≡ None → next.machine.completed ≡ w.machine.completed → KeptAll
+  pub kept_held : (next : World) → Stands s'.engine next → KeepsThese next s'.ground.kept → ((id : ℕ) → s'.engine.hub.dir.next ≤ id → next.shelf id ≡ []) → RunsOver s'.ground s'.running next.machine → next.machine.completed ≡ w.machine.completed → KeptAll
       → (next.machine.fault ≡ None → StandsOn (g.seen after) (g.may_leave after) s'.engine.hub s'.ground grounded.old × Follows grounded.old s'.engine.hub s'.ground next × AreLivesOn (g.seen after) s'.engine.hub s'.ground next) → IsHeldIn g start_disk s' after next first made
-  kept_held next stands keeps bare idle same kept on = record {
+  kept_held next stands keeps bare runs same kept on = record {
     stands = stands;
-    idle = idle;
+    running = runs;
     kept = keeps;
     bare = bare;
     on = λ up. record { old = grounded.old; on = (on up).0; follows = (on up).1; since = (on up).2; opens = subst (λ (k : Completed). OpensAs (content_was grounded.old) k) (sym same) grounded.opens; one = grounded.one };
@@ -116,18 +119,18 @@ module _ {D : Type 0} (g : Ghosts D) (start_disk before after : D)
         left (λ c either. one_of c (either_opens c either))
 
     -- each image has it
-    done_held : (next : World) → Stands s'.engine next → KeepsThese next s'.ground.kept → ((id : ℕ) → s'.engine.hub.dir.next ≤ id → next.shelf id ≡ []) → next.machine.checkpoint ≡ None → own.at ≡ g.moment after → next.machine.completed ≡ own.checkpoint → Each (g.may_leave after) (λ c. IsOn c new)
-        → StandsOn (g.seen after) (g.may_leave after) s'.engine.hub s'.ground (Some new) → Follows (Some new) s'.engine.hub s'.ground next → s'.ground.lives ≡ [] → OpensAs (content_of new) own.checkpoint → IsHeldIn g start_disk s' after next first (made ++ own ∷ [])
-    done_held next stands keeps bare idle now same each on follows none new_opens = record {
+    pub done_held : (next : World) → Stands s'.engine next → KeepsThese next s'.ground.kept → ((id : ℕ) → s'.engine.hub.dir.next ≤ id → next.shelf id ≡ []) → RunsOver s'.ground s'.running next.machine → own.at ≡ g.moment after → next.machine.completed ≡ own.checkpoint → Each (g.may_leave after) (λ c. IsOn c new)
+        → StandsOn (g.seen after) (g.may_leave after) s'.engine.hub s'.ground (Some new) → Follows (Some new) s'.engine.hub s'.ground next → AreLivesOn (g.seen after) s'.engine.hub s'.ground next → OpensAs (content_of new) own.checkpoint → IsHeldIn g start_disk s' after next first (made ++ own ∷ [])
+    done_held next stands keeps bare runs now same each on follows since new_opens = record {
       stands = stands;
-      idle = idle;
+      running = runs;
       kept = keeps;
       bare = bare;
       on = λ up. record {
         old = Some new;
         on = on;
         follows = follows;
-        since = none_on (g.seen after) s'.engine.hub s'.ground next none;
+        since = since;
         opens = subst (λ (k : Completed). OpensAs (content_of new) k) (sym same) new_opens;
         one = (own.checkpoint, last_opens (first ∷ []) made own, new_opens);
       };
@@ -140,12 +143,12 @@ module _ {D : Type 0} (g : Ghosts D) (start_disk before after : D)
     }
 
     -- a fault at its gate stopped it
-    gate_held : (next : World) → Stands s'.engine next → KeepsThese next s'.ground.kept → ((id : ℕ) → s'.engine.hub.dir.next ≤ id → next.shelf id ≡ []) → next.machine.checkpoint ≡ None → own.at ≡ g.moment after → own.refused ≡ Some DiskFault → (next.machine.fault ≡ None → ⊥) → IsHeldIn g start_disk s' after next first (made ++ own ∷ [])
-    gate_held next stands keeps bare idle now stopped down =
+    pub gate_held : (next : World) → Stands s'.engine next → KeepsThese next s'.ground.kept → ((id : ℕ) → s'.engine.hub.dir.next ≤ id → next.shelf id ≡ []) → RunsOver s'.ground s'.running next.machine → own.at ≡ g.moment after → own.refused ≡ Some DiskFault → (next.machine.fault ≡ None → ⊥) → IsHeldIn g start_disk s' after next first (made ++ own ∷ [])
+    gate_held next stands keeps bare runs now stopped down =
         let images : Each (g.may_leave after) (OpensToAny (may_open_to (first ∷ []) (made ++ own ∷ []))) = λ c image. any_of DiskFault stopped c (either_opens c (left.each c (counts left.later c image))) in
         record {
           stands = stands;
-          idle = idle;
+          running = runs;
           kept = keeps;
           bare = bare;
           on = λ up. absurd (down up);
@@ -160,15 +163,19 @@ module _ {D : Type 0} (g : Ghosts D) (start_disk before after : D)
         not_done : own.refused ≡ None → ⊥
         not_done told = let e : Some DiskFault ≡ None = sym stopped ∙ told in cc
 
-  -- ---- by what the checkpoint answers
+  -- ---- by what the checkpoint answers, where none runs
 
-  module _ (kept_same : s'.ground.kept ≡ s.ground.kept) (count : g.faults before ≤ g.faults after) (room : g.capacity after ≡ g.capacity before) (law : ReadCheckpointsOpen) (downs : DownsGo) where
+  module _ (idle : w.machine.checkpoint ≡ None) (none_now : s'.running ≡ None) (kept_same : s'.ground.kept ≡ s.ground.kept) (count : g.faults before ≤ g.faults after) (room : g.capacity after ≡ g.capacity before) (law : ReadFinishesOpen) (downs : DownsGo) where
     abbrev m : Machine
     m = w.machine
 
     -- what is kept is what it was
     keeps_still : KeepsThese w s'.ground.kept
     keeps_still = subst (λ (l : Lists). KeepsThese w l) (sym kept_same) held.kept
+
+    -- none runs then either
+    idle_still : (n : Machine) → n.checkpoint ≡ None → RunsOver s'.ground s'.running n
+    idle_still n free = none_runs s'.ground s'.running n none_now free
 
     abbrev number : ℕ
     number = number_of grounded.old
@@ -204,9 +211,9 @@ module _ {D : Type 0} (g : Ghosts D) (start_disk before after : D)
     abbrev installed : Option Refusal → Installed
     installed refused = record { checkpoint = (checkpointed m).completed; refused = refused; at = g.moment after }
 
-    module _ (new : Stored) (checkpoint : IsCheckpointOf m number new) where
+    module _ (new : Stored) (checkpoint : IsWholeOf m number new) where
       new_opens : (c : List ℕ) → IsOn c new → OpensAs (content_of new) (checkpointed m).completed
-      new_opens c on = law c m number new held.stands.valid on checkpoint
+      new_opens c on = law c (after_event m CheckpointStart) (begun m) number new (valid_begun m held.stands.valid) refl on checkpoint
 
       opens_new : (c : List ℕ) → IsOn c new → Opens c (checkpointed m).completed
       opens_new c on = (content_of new, inr (new, on, refl), new_opens c on)
@@ -232,8 +239,8 @@ module _ {D : Type 0} (g : Ghosts D) (start_disk before after : D)
           behind = record { later = is_later t.leaves.later; capacity = room; has = (t.new, number, t.is, t.on.stands.seen_has) };
           takes = inr (number, Ok tt, counted, t.may, record { storing = StoredWhole; takes = (s.engine.hub.dir.leaves, known_in s.ground.parts, parted, t.had_room); told = refl; leaves = refl });
           installs = refl;
-          held = held_kept g start_disk after s' (record w { machine = checkpointed m; shelf = shelf }) first (made ++ installed None ∷ []) (done_held t.new (installed None) (opens_new t.new t.is) t.leaves (record w { machine = checkpointed m; shelf = shelf }) stands keeps bare refl refl refl t.each
-              on follows none_left (new_opens t.new t.is (g.seen after) t.on.stands.seen_has));
+          held = held_kept g start_disk after s' (record w { machine = checkpointed m; shelf = shelf }) first (made ++ installed None ∷ []) (done_held t.new (installed None) (opens_new t.new t.is) t.leaves (record w { machine = checkpointed m; shelf = shelf }) stands keeps bare (idle_still (checkpointed m) refl) refl refl t.each
+              on follows (none_on (g.seen after) s'.engine.hub s'.ground (record w { machine = checkpointed m; shelf = shelf }) none_left) (new_opens t.new t.is (g.seen after) t.on.stands.seen_has));
           none = λ was. none_left;
         }
 
@@ -263,7 +270,7 @@ module _ {D : Type 0} (g : Ghosts D) (start_disk before after : D)
       behind = record { later = is_later n.leaves.later; capacity = room; has = λ up. (grounded.old, grounded.on.stands.seen_has, n.on.stands.seen_has) };
       takes = refused_by r n.why;
       installs = inl refl;
-      held = held_kept g start_disk after s' w first made (kept_held w (subst (λ (e : Engine). Stands e w) (sym n.same) held.stands) keeps_still (λ id late. held.bare id (subst (λ (e : Engine). e.hub.dir.next ≤ id) n.same late)) held.idle refl n.leaves
+      held = held_kept g start_disk after s' w first made (kept_held w (subst (λ (e : Engine). Stands e w) (sym n.same) held.stands) keeps_still (λ id late. held.bare id (subst (λ (e : Engine). e.hub.dir.next ≤ id) n.same late)) (idle_still w.machine idle) refl n.leaves
           (λ up. (
             subst (λ (e : Engine). StandsOn (g.seen after) (g.may_leave after) e.hub s'.ground grounded.old) (sym n.same) n.on,
             subst (λ (e : Engine). Follows grounded.old e.hub s'.ground w) (sym n.same) n.follows,
@@ -295,18 +302,18 @@ module _ {D : Type 0} (g : Ghosts D) (start_disk before after : D)
         behind = record { later = is_later kept.later; capacity = room; has = λ up. absurd (not_up up) };
         takes = fell_takes;
         installs = inl refl;
-        held = held_kept g start_disk after s' (record w { machine = down }) first made (kept_held (record w { machine = down }) fell_stands keeps_still fell_bare held.idle refl kept (λ up. absurd (not_up up)));
+        held = held_kept g start_disk after s' (record w { machine = down }) first made (kept_held (record w { machine = down }) fell_stands keeps_still fell_bare (idle_still down idle) refl kept (λ up. absurd (not_up up)));
         none = λ none. lives ∙ none;
       }
 
-      fell_at : (new : Stored) → IsCheckpointOf m number new → LeavesOnly g before after (IsEither (g.may_leave before) grounded.old new) → Gives (Err DiskFault)
+      fell_at : (new : Stored) → IsWholeOf m number new → LeavesOnly g before after (IsEither (g.may_leave before) grounded.old new) → Gives (Err DiskFault)
       fell_at new checkpoint left = record {
         next = down;
         now = made ++ installed (Some DiskFault) ∷ [];
         behind = record { later = is_later left.later; capacity = room; has = λ up. absurd (not_up up) };
         takes = fell_takes;
         installs = inr (refl, (fault, refl), refl);
-        held = held_kept g start_disk after s' (record w { machine = down }) first (made ++ installed (Some DiskFault) ∷ []) (gate_held new (installed (Some DiskFault)) (opens_new new checkpoint) left (record w { machine = down }) fell_stands keeps_still fell_bare held.idle refl refl not_up);
+        held = held_kept g start_disk after s' (record w { machine = down }) first (made ++ installed (Some DiskFault) ∷ []) (gate_held new (installed (Some DiskFault)) (opens_new new checkpoint) left (record w { machine = down }) fell_stands keeps_still fell_bare (idle_still down idle) refl refl not_up);
         none = λ none. lives ∙ none;
       }
 
@@ -333,7 +340,7 @@ module _ {D : Type 0} (g : Ghosts D) (start_disk disk : D) (image : g.may_leave 
   pub clock_held : (n : Frames) (k : Clock) → IsHeldIn g start_disk (record s { frames = n; clock = k }) disk w first made
   clock_held n k = record {
     stands = held.stands;
-    idle = held.idle;
+    running = held.running;
     kept = held.kept;
     bare = held.bare;
     on = λ up. let x = held.on up in record { old = x.old; on = x.on; follows = x.follows; since = x.since; opens = x.opens; one = x.one };
@@ -369,24 +376,25 @@ module _ {D : Type 0} (g : Ghosts D) (start_disk disk : D) (image : g.may_leave 
 -- ---- of either
 
 -- but for how many frames there are, and which leaves go out
-pub same_store : (s s' : Store) → s'.engine ≡ s.engine → s'.ground ≡ s.ground → s' ≡ record s { frames = s'.frames; clock = s'.clock }
-same_store s s' engine place =
+pub same_store : (s s' : Store) → s'.engine ≡ s.engine → s'.ground ≡ s.ground → s'.running ≡ s.running → s' ≡ record s { frames = s'.frames; clock = s'.clock }
+same_store s s' engine place running =
     ap (λ (e : Engine). let x : Store = record s' { engine = e } in x) engine
     ∙ ap (λ (p : Ground). let x : Store = record s' { engine = s.engine; ground = p } in x) place
+    ∙ ap (λ (o : Option RunningCheckpoint). let x : Store = record s' { engine = s.engine; ground = s.ground; running = o } in x) running
 
 module _ {D : Type 0} (g : Ghosts D) (start_disk before after : D)
     (counts : g.moment before ≤ g.moment after → (c : List ℕ) → g.may_leave after c → g.left_since after (g.moment before) c) (only : (c : List ℕ) → g.left_since after (g.moment after) c → g.may_leave after c)
-    (image : g.may_leave before (g.seen before)) (s s' : Store) (w : World) (first : Completed) (made : List Installed) (held : IsHeldIn g start_disk s before w first made)
-    (count : g.faults before ≤ g.faults after) (room : g.capacity after ≡ g.capacity before) (law : ReadCheckpointsOpen) (downs : DownsGo) (result : Result (Unit {0}) Refusal)
+    (image : g.may_leave before (g.seen before)) (s s' : Store) (w : World) (first : Completed) (made : List Installed) (held : IsHeldIn g start_disk s before w first made) (free : s.running ≡ None) (none : s'.running ≡ None)
+    (count : g.faults before ≤ g.faults after) (room : g.capacity after ≡ g.capacity before) (law : ReadFinishesOpen) (downs : DownsGo) (result : Result (Unit {0}) Refusal)
     (takes : (old : Option Stored) → StandsOn (g.seen before) (g.may_leave before) s.engine.hub s.ground old → Follows old s.engine.hub s.ground w → AreLivesOn (g.seen before) s.engine.hub s.ground w → Takes g old w s.ground s'.ground s.engine s'.engine before after result)
     (down : (fault : Fault) → s.engine.hub.fault ≡ Some fault → (result ≡ Err (Panic fault)) × (s'.engine ≡ s.engine) × (s'.ground ≡ s.ground) × (after ≡ before)) (lives : OnErr result (s'.ground.lives ≡ s.ground.lives)) (kept : s'.ground.kept ≡ s.ground.kept) where
   by_fault : (f : Option Fault) → w.machine.fault ≡ f → CheckpointsOn g start_disk w first made s s' before after w.shelf result
   by_fault None up =
       let on = held.on up in
-      by_takes g start_disk before after counts only image s s' w first made held on kept count room law downs result lives (takes on.old on.on on.follows on.since)
+      by_takes g start_disk before after counts only image s s' w first made held on (runs_none s.ground s.running w.machine free held.running) none kept count room law downs result lives (takes on.old on.on on.follows on.since)
   by_fault (Some fault) is =
       let told = down fault (held.stands.fault ∙ is) in
-      by_down g start_disk before image s w first made held s' after result fault is told.0 (same_store s s' told.1 told.2) told.3
+      by_down g start_disk before image s w first made held s' after result fault is told.0 (same_store s s' told.1 told.2 (none ∙ sym free)) told.3
 
   pub checkpoints_by : Checkpoints g start_disk w first made s s' before after result
   checkpoints_by = (w.shelf, by_fault w.machine.fault refl)
@@ -400,10 +408,10 @@ newest_taken m s newest t place tree has = let rows = newest t place tree has in
 -- stand, e: the ground and the engine when it was taken
 module _ {D : Type 0} (g : Ghosts D) (start_disk before after : D)
     (counts : g.moment before ≤ g.moment after → (c : List ℕ) → g.may_leave after c → g.left_since after (g.moment before) c) (only : (c : List ℕ) → g.left_since after (g.moment after) c → g.may_leave after c)
-    (image : g.may_leave before (g.seen before)) (s s' : Store) (w : World) (first : Completed) (made : List Installed) (held : IsHeldIn g start_disk s before w first made)
-    (count : g.faults before ≤ g.faults after) (room : g.capacity after ≡ g.capacity before) (law : ReadCheckpointsOpen) (downs : DownsGo) (have : CheckpointsHaveNewest) (stand : Ground) (e : Engine)
+    (image : g.may_leave before (g.seen before)) (s s' : Store) (w : World) (first : Completed) (made : List Installed) (held : IsHeldIn g start_disk s before w first made) (free : s.running ≡ None) (none : s'.running ≡ None)
+    (count : g.faults before ≤ g.faults after) (room : g.capacity after ≡ g.capacity before) (law : ReadFinishesOpen) (downs : DownsGo) (have : CheckpointsHaveNewest) (stand : Ground) (e : Engine)
     (takes : (old : Option Stored) → StandsOn (g.seen before) (g.may_leave before) s.engine.hub s.ground old → Follows old s.engine.hub s.ground w → AreLivesOn (g.seen before) s.engine.hub s.ground w → Taken g old w s.ground stand s.engine e before after)
-    (up : (fault : Fault) → s.engine.hub.fault ≡ Some fault → ⊥) (n : Frames) (k : Clock) (goes : LetsGo g (record { engine = e; ground = stand; frames = n; clock = k }) s') (kept : stand.kept ≡ s.ground.kept) where
+    (up : (fault : Fault) → s.engine.hub.fault ≡ Some fault → ⊥) (o : Option RunningCheckpoint) (n : Frames) (k : Clock) (goes : LetsGo g (record { engine = e; ground = stand; running = o; frames = n; clock = k }) s') (kept : stand.kept ≡ s.ground.kept) where
   -- the engine that was checkpointed is the same
   of_first : {seen : List ℕ} {images : List ℕ → Type 0} {old : Option Stored} {v : World} → e ≡ s.engine → IsRelieved seen images old e.hub.dir.next v s' → IsRelieved seen images old s.engine.hub.dir.next v s'
   of_first {seen} {images} {old} {v} same r = subst (λ (x : Engine). IsRelieved seen images old x.hub.dir.next v s') same r
@@ -414,11 +422,11 @@ module _ {D : Type 0} (g : Ghosts D) (start_disk before after : D)
       let on = held.on is in
       let t = takes on.old on.on on.follows on.since in
       let r = of_first t.same (goes.relieves after (Some t.new) (record w { machine = checkpointed w.machine }) t.stands refl
-      (taken_on g start_disk before after counts only image s s' w first made held on (goes.kept ∙ kept) count room law downs stand e t)
-      (taken_follows g start_disk before after counts only image s s' w first made held on (goes.kept ∙ kept) count room law downs stand e t)
+      (taken_on g start_disk before after counts only image s s' w first made held on (runs_none s.ground s.running w.machine free held.running) none (goes.kept ∙ kept) count room law downs stand e t)
+      (taken_follows g start_disk before after counts only image s s' w first made held on (runs_none s.ground s.running w.machine free held.running) none (goes.kept ∙ kept) count room law downs stand e t)
       t.none
-      (newest_taken w.machine t.new (have w.machine (number_of on.old) t.new t.is))) in
-      (cut s'.engine.hub.dir.next r.shelf, taken g start_disk before after counts only image s s' w first made held on (goes.kept ∙ kept) count room law downs stand e t r)
+      (newest_taken w.machine t.new (have w.machine (number_of on.old) t.new held.stands.valid t.is))) in
+      (cut s'.engine.hub.dir.next r.shelf, taken g start_disk before after counts only image s s' w first made held on (runs_none s.ground s.running w.machine free held.running) none (goes.kept ∙ kept) count room law downs stand e t r)
 
   pub relieved_by : Checkpoints g start_disk w first made s s' before after (Ok tt)
   relieved_by = by_up w.machine.fault refl

@@ -35,10 +35,12 @@ use Rattle.engine_store.specs.Held.{IsGrounded, IsHeld, IsHeldIn}
 use Rattle.engine_store.specs.Opened.{IsReady}
 use Rattle.engine_store.specs.Relieves.{StaysAlike}
 use Rattle.engine_store.specs.WritesOut.{WhyNoMore, WritesAlike, WritesFrom, WritesOut, WroteDown, WroteOn, WroteUp, is_short}
+use Rattle.engine_store.specs.Running.{RunsOver}
 use Rattle.engine_store.proofs.Contents.{numbered, one_number}
 use Rattle.engine_store.proofs.CutShelves.{cut, cut_past, follows_cut, kept_cut, on_cut, stands_cut}
 use Rattle.engine_store.proofs.OtherRecords.{held_kept}
 use Rattle.engine_store.proofs.Taking.{clock_held, kept_held, same_store}
+use Rattle.engine_store.proofs.UnderWayStill.{none_runs, runs_none}
 
 -- ---- a device has one checkpoint, or none
 
@@ -70,10 +72,17 @@ barred_down m number fault r fell barred = same_refusal (sym barred ∙ decided-
 module _ {D : Type 0} (g : Ghosts D) (start_disk before after : D)
     (counts : g.moment before ≤ g.moment after → (c : List ℕ) → g.may_leave after c → g.left_since after (g.moment before) c) (only : (c : List ℕ) → g.left_since after (g.moment after) c → g.may_leave after c)
     (image : g.may_leave before (g.seen before)) (s s' : Store) (w : World) (first : Completed) (made : List Installed) (held : IsHeldIn g start_disk s before w first made)
-    (disk : SameDisk g before after) (downs : DownsGo) (kept : s'.ground.kept ≡ s.ground.kept) where
+    (disk : SameDisk g before after) (downs : DownsGo) (free : s.running ≡ None) (none : s'.running ≡ None) (kept : s'.ground.kept ≡ s.ground.kept) where
   -- what is kept is what it was
   keeps_still : KeepsThese w s'.ground.kept
   keeps_still = subst (λ (l : Lists). KeepsThese w l) (sym kept) held.kept
+
+  -- none runs, then either
+  idle : w.machine.checkpoint ≡ None
+  idle = runs_none s.ground s.running w.machine free held.running
+
+  idle_still : (n : Machine) → n.checkpoint ≡ None → RunsOver s'.ground s'.running n
+  idle_still n is = none_runs s'.ground s'.running n none is
 
   abbrev Wrote : Result (Unit {0}) Refusal → Type 0
   Wrote result = WritesOut g start_disk w first made s s' before after result
@@ -98,7 +107,7 @@ module _ {D : Type 0} (g : Ghosts D) (start_disk before after : D)
       wrote = record {
         later = is_later left;
         capacity = disk.room;
-        held = held_kept g start_disk after s' (record w { shelf = shelf }) first made (kept_held g start_disk before after counts only image s s' w first made held grounded (record w { shelf = shelf }) stands keeps_these bare held.idle refl left (λ up. (on, follows, since)));
+        held = held_kept g start_disk after s' (record w { shelf = shelf }) first made (kept_held g start_disk before after counts only image s s' w first made held grounded (record w { shelf = shelf }) stands keeps_these bare (idle_still w.machine idle) refl left (λ up. (on, follows, since)));
       };
       keeps = keeps on.stands.seen_has;
     }
@@ -129,7 +138,7 @@ module _ {D : Type 0} (g : Ghosts D) (start_disk before after : D)
         later = is_later f.left;
         capacity = disk.room;
         held = held_kept g start_disk after s' (record w { machine = after_event w.machine (GoDown f.fault) }) first made (kept_held g start_disk before after counts only image s s' w first made held grounded (record w { machine = after_event w.machine (GoDown f.fault) })
-            (subst (λ (e : Engine). Stands e (record w { machine = after_event w.machine (GoDown f.fault) })) (sym f.down) (downs s.engine w f.fault held.stands)) keeps_still (λ other late. held.bare other (subst (λ (e : Engine). e.hub.dir.next ≤ other) f.down late)) held.idle refl f.left (λ up. absurd (not_up f.fault up)));
+            (subst (λ (e : Engine). Stands e (record w { machine = after_event w.machine (GoDown f.fault) })) (sym f.down) (downs s.engine w f.fault held.stands)) keeps_still (λ other late. held.bare other (subst (λ (e : Engine). e.hub.dir.next ≤ other) f.down late)) (idle_still (after_event w.machine (GoDown f.fault)) idle) refl f.left (λ up. absurd (not_up f.fault up)));
       };
     }
       where
@@ -163,7 +172,7 @@ module _ {D : Type 0} (g : Ghosts D) (start_disk before after : D)
     same_down : s'.engine ≡ s.engine → s'.ground ≡ s.ground → after ≡ before → WroteUp g start_disk w first made s s' before after
     same_down engine ground still =
         subst (λ (d : D). WroteUp g start_disk w first made s s' before d) (sym still)
-        (subst (λ (x : Store). WroteUp g start_disk w first made s x before before) (sym (same_store s s' engine ground))
+        (subst (λ (x : Store). WroteUp g start_disk w first made s x before before) (sym (same_store s s' engine ground (none ∙ sym free)))
         (record {
           shelf = w.shelf;
           wrote = record { later = record { faults = omega arith; moment = omega arith }; capacity = refl; held = held_kept g start_disk before (record s { frames = s'.frames; clock = s'.clock }) w first made (clock_held g start_disk before image s w first made held s'.frames s'.clock) };
@@ -198,9 +207,9 @@ module _ {D : Type 0} (g : Ghosts D) (start_disk before after : D)
 
 -- ---- whatever the disk
 
-module _ (s s' : Store) (frames : s'.frames ≡ s.frames) (number : s'.ground.number ≡ s.ground.number) (trees : s'.ground.trees ≡ s.ground.trees) where
+module _ (s s' : Store) (running : s'.running ≡ s.running) (frames : s'.frames ≡ s.frames) (number : s'.ground.number ≡ s.ground.number) (trees : s'.ground.trees ≡ s.ground.trees) where
   pub leaf_alike : (id : ℕ) (result : Result Bool Refusal) → (s'.engine.hub.tables ≡ s.engine.hub.tables) × (s'.engine.hub.txns ≡ s.engine.hub.txns) → LeavesEngine s.engine s'.engine id result → StaysAlike s s'
-  leaf_alike id result hub leaves = record { frames = frames; sessions = by result leaves; tables = hub.0; txns = hub.1; number = number; trees = trees }
+  leaf_alike id result hub leaves = record { running = running; frames = frames; sessions = by result leaves; tables = hub.0; txns = hub.1; number = number; trees = trees }
     where
       by : (r : Result Bool Refusal) → LeavesEngine s.engine s'.engine id r → s'.engine.sessions ≡ s.engine.sessions
       by (Ok true) (entries, way) = ap (λ (e : Engine). e.sessions) way.is
@@ -228,7 +237,7 @@ module _ {D : Type 0} (g : Ghosts D) where
 
   pub none_alike : (s : Store) (disk : D) → WritesAlike g s s disk disk (Ok tt)
   none_alike s disk = record {
-    alike = record { frames = refl; sessions = refl; tables = refl; txns = refl; number = refl; trees = refl };
+    alike = record { running = refl; frames = refl; sessions = refl; tables = refl; txns = refl; number = refl; trees = refl };
     fault = tt;
     disk = record { same = refl; room = refl; home = refl; later = omega arith };
   }
@@ -236,6 +245,7 @@ module _ {D : Type 0} (g : Ghosts D) where
   module _ (a b c : Store) (before mid after : D) where
     pub alike_then : StaysAlike a b → StaysAlike b c → StaysAlike a c
     alike_then one two = record {
+      running = two.running ∙ one.running;
       frames = two.frames ∙ one.frames;
       sessions = two.sessions ∙ one.sessions;
       tables = two.tables ∙ one.tables;

@@ -20,7 +20,7 @@ use Rattle.engine_world.specs.Worlds.{World}
 use Rattle.engine.specs.Checkpoints.{MayStart}
 use Rattle.engine.specs.Closes.{unfinished_in}
 use Rattle.ckpt_step.specs.declared.lives.Lone.{Lone}
-use Rattle.ckpt_content.specs.Checkpoints.{IsCheckpointOf}
+use Rattle.ckpt_step.specs.Takes.{IsWholeOf}
 use Rattle.engine_store.specs.Devices.{Device, Installed, IsLater, IsNumberOf, IsUsedUp, MayTakeAt, last_number}
 
 -- done, or refused
@@ -48,7 +48,7 @@ CheckpointTakes lives old new m answer next =
 
 -- what the device has behind a call that takes a checkpoint of this machine: that one where it is done, the one before where it is refused and the engine stays up
 abbrev pub HasBehind : Device → Device → Machine → Machine → Answer (List ℕ) → Type 0
-HasBehind old new m next Done = (s : OnDevice) × (number : ℕ) × IsCheckpointOf m number s × IsOn new.seen s
+HasBehind old new m next Done = (s : OnDevice) × (number : ℕ) × IsWholeOf m number s × IsOn new.seen s
 HasBehind old new m next (Refused r) = next.fault ≡ None → (s : Option OnDevice) × HasStill s old.seen × HasStill s new.seen
 HasBehind old new m next _ = ⊥
 

@@ -156,10 +156,11 @@ TellsSo {D} g s s' before after Told =
     (basis : Option Basis) (start : D) → g.faults start ≤ g.faults before → IsBasis g basis s.engine before → AreToldSo g basis start s.engine before
     → Told basis start × AreToldSo g basis start s'.engine after × IsBasis g basis s'.engine after
 
--- what holds of the store, its ground but for what is kept of leaves, and how many frames it has; the disk was looked at alone
+-- what holds of the store, its ground but for what is kept of leaves, the checkpoint that runs, and how many frames it has; the disk was looked at alone
 pub record CallKeeps {D : Type 0} (g : Ghosts D) (s s' : Store) (before after : D) : Type 0 where
   pub ready : IsReady s → IsReady s'
   pub ground : IsSameButKept s.ground s'.ground
+  pub running : s'.running ≡ s.running
   pub frames : s'.frames ≡ s.frames
   pub looked : Looked g before after
   pub home : g.home after ≡ g.home before

@@ -20,7 +20,7 @@ use Rattle.ckpt_step.specs.declared.lives.Lone.{Lone}
 use Rattle.ckpt_step.specs.Floors.{AreOnDevice}
 use Rattle.ckpt_step.specs.Grounds.{AreLedTo, AreRoots, AreSince}
 use Rattle.ckpt_step.specs.Rooms.{Written}
-use Rattle.ckpt_step.specs.Sizes.{HasRoomFor, IsFullFor}
+use Rattle.ckpt_step.specs.Takes.{HadRoomFor, IsTooFullFor}
 
 -- a device at a point of a run: what a read gives, how much it may hold, how often it has failed, and its moment
 pub record Device : Type 0 where
@@ -94,8 +94,8 @@ pub record ArePartedOn (bytes : List ℕ) (m : Machine) (lives : List Lone) (lea
 
 -- how a device takes the blocks of a checkpoint, beside those of these leaves, which were written since the last one: each has a place, or one of them finds none
 abbrev pub MayTakeAt : List Lone → Device → Device → Machine → Storing → Type 0
-MayTakeAt lives old new m Stored = (leaves : List Leaf) × (written : Written) × ArePartedOn old.seen m lives leaves written × HasRoomFor old.seen old.capacity lives leaves written m
-MayTakeAt lives old new m NoPlace = (leaves : List Leaf) × (written : Written) × ArePartedOn old.seen m lives leaves written × IsFullFor old.seen old.capacity lives leaves written m
+MayTakeAt lives old new m Stored = (leaves : List Leaf) × (written : Written) × ArePartedOn old.seen m lives leaves written × HadRoomFor old.seen old.capacity lives leaves written m
+MayTakeAt lives old new m NoPlace = (leaves : List Leaf) × (written : Written) × ArePartedOn old.seen m lives leaves written × IsTooFullFor old.seen old.capacity lives leaves written m
 MayTakeAt lives old new m ReadFailed = Rose old.faults new.faults
 MayTakeAt lives old new m (Damaged offset want found) = ⊥
 MayTakeAt lives old new m (WriteFailed fault) = Rose old.faults new.faults

@@ -61,10 +61,10 @@ IsOfSession session _ = ⊥
 
 -- A session holds it; a transaction that has not ended has a version in it, of those with an update the least; one that wrote in it has not ended, and none has a version in it any more; or its frame is at its last generation.
 abbrev pub KeepsInFrame : Engine → Machine → ℕ → Refusal → Type 0
-KeepsInFrame e m id (Refusal_Busy (Busy_Pinned session)) = (why : Stays) × IsOfSession session why × WhyNotNow e id why
+KeepsInFrame e m id (Refusal_Busy (Busy_Pinned session)) = (why : Stays) × IsOfSession session why × WhyNotNow e m id why
 KeepsInFrame e m id (Refusal_Busy (Busy_Unresolved by)) = IsLeastUnended e m id by
-KeepsInFrame e m id (Refusal_Busy (Busy_Resolving session)) = WhyNotNow e id (Written session) × ((by : ℕ) → HoldsUnended e m id by → ⊥)
-KeepsInFrame e m id (Refusal_Limit Generations) = WhyNotNow e id LastGeneration
+KeepsInFrame e m id (Refusal_Busy (Busy_Resolving session)) = WhyNotNow e m id (Written session) × ((by : ℕ) → HoldsUnended e m id by → ⊥)
+KeepsInFrame e m id (Refusal_Limit Generations) = WhyNotNow e m id LastGeneration
 KeepsInFrame e m id _ = ⊥
 
 -- It is kept so, or it could not be written: memory or room was short, or a call of the disk failed. lives: the leaves that were written since the last checkpoint
@@ -113,8 +113,8 @@ EvictsFrom {D} g s s' before after number name key result =
 -- ---- one leaf
 
 -- why the leaf of this id was not evicted, with the engine as it was: memory was short, or it is kept
-abbrev pub IsKeptBy : Engine → ℕ → Refusal → Type 0
-IsKeptBy e id r = (r ≡ NoMemory) ⊎ ((w : World) → Stands e w → KeepsInFrame e w.machine id r)
+abbrev pub IsKeptBy : Engine → Machine → ℕ → Refusal → Type 0
+IsKeptBy e m id r = (r ≡ NoMemory) ⊎ KeepsInFrame e m id r
 
 -- what is told of a hazard word that names its frame
 abbrev pub IsPinnedBy : ℕ → Refusal → Type 0

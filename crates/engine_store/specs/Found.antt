@@ -1,5 +1,5 @@
 -- What is made of a survey, step by step.
-use Rattle.std.specs.Prelude.{◌≡◌, ◌⊎◌, ℕ, ◌≤◌, IsTrue, List, [], Option}
+use Rattle.std.specs.Prelude.{◌≡◌, ◌⊎◌, ℕ, ◌≤◌, IsTrue, List, [], None, Option}
 use Rattle.failure.specs.Counts.{Rose}
 use Rattle.disk_model.specs.declared.disk.Disk.{Ghosts}
 use Rattle.wt_code.specs.declared.refusals.Refusal.{Refusal}
@@ -36,11 +36,12 @@ pub record IsGroundOf (bytes : List ℕ) (hub : Hub) (g : Ground) (old : Option 
   pub none : g.lives ≡ []
   pub floor : g.floor ≡ no_name
 
--- The engine begins with what the device holds, with what is kept as the history. The leaves that are not loaded are as the checkpoint has them; of one that was never made no block has rows.
+-- The engine begins with what the device holds, with what is kept as the history, and no checkpoint runs. The leaves that are not loaded are as the checkpoint has them; of one that was never made no block has rows.
 pub record IsFound (bytes : List ℕ) (s : Store) : Type 0 where
   pub old : Option Stored
   pub numbers : HasNumbers old
   pub on : IsGroundOf bytes s.engine.hub s.ground old
+  pub running : s.running ≡ None
   pub shelf : ℕ → List Row
   pub world : Stands s.engine (begun_with (content_was old) shelf s)
   pub bare : (id : ℕ) → s.engine.hub.dir.next ≤ id → shelf id ≡ []

@@ -30,6 +30,7 @@ pub record IsWhole (s : Store) (id : ℕ) : Type 0 where
 -- Nobody sees that leaves went out: whatever the disk, the store stands for the worlds for which it stood, on the checkpoint that the disk has.
 pub record GoOut {D : Type 0} (g : Ghosts D) (s s' : Store) : Type 0 where
   pub ground : s'.ground ≡ s.ground
+  pub running : s'.running ≡ s.running
   pub frames : s'.frames ≡ s.frames
   pub sessions : s'.engine.sessions ≡ s.engine.sessions
   pub hub : s'.engine.hub ≡ record s.engine.hub { dir = s'.engine.hub.dir }

@@ -21,6 +21,7 @@ use Rattle.engine_store.specs.declared.store.Store.{Store}
 use Rattle.engine_store.specs.Answers.{CheckpointTakes, CloseTakes, Installs, IsLeft, RefusesReopening, answer_of}
 use Rattle.engine_store.specs.Devices.{Installed, IsLater, device_of, may_open_to}
 use Rattle.engine_store.specs.Keeping.{begun_with, with_kept}
+use Rattle.engine_store.specs.Running.{RunsOver}
 use Rattle.engine_store.specs.Images.{OpensToAny, OpensToLast, OpensToOne, Stays}
 
 -- the next checkpoint stands on the one that the device has, of which the leaves that are not loaded, and those that are clean, have the rows that they had; a leaf that was written since has those of its block; it opens as the machine's last one, and is one of those to which the device may open
@@ -37,7 +38,7 @@ module _ {D : Type 0} (g : Ghosts D) (start_disk : D) where
   -- of a world in which the history has what the store keeps
   pub record IsHeldIn (s : Store) (disk : D) (w : World) (first : Completed) (made : List Installed) : Type 0 where
     pub stands : Stands s.engine w
-    pub idle : w.machine.checkpoint ≡ None
+    pub running : RunsOver s.ground s.running w.machine
     pub kept : KeepsThese w s.ground.kept
     -- of a leaf that was never made no block has rows
     pub bare : (id : ℕ) → s.engine.hub.dir.next ≤ id → w.shelf id ≡ []

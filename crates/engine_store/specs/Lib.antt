@@ -14,7 +14,9 @@ pub mod Loads
 pub mod Calls
 pub mod Fetches
 pub mod Found
+pub mod Running
 pub mod Held
+pub mod Finishes
 pub mod Relieves
 pub mod WritesOut
 pub mod Room

@@ -42,13 +42,14 @@ abbrev pub HasNumbers : Option Stored → Type 0
 HasNumbers None = Unit {0}
 HasNumbers (Some s) = (s.kept.run < last_number) × (s.kept.next_table + TABLES_MAX < 2 ^ 32 + length s.kept.tables)
 
--- The engine stands for the world with which what the device holds begins, without a session, in which the history has what is kept. The leaves that are not loaded are as the checkpoint has them, and none was written since; of one that was never made no block has rows.
+-- The engine stands for the world with which what the device holds begins, without a session or a checkpoint that runs, in which the history has what is kept. The leaves that are not loaded are as the checkpoint has them, and none was written since; of one that was never made no block has rows.
 pub record IsOpened (seen : List ℕ) (images : List ℕ → Type 0) (s : Store) : Type 0 where
   pub old : Option Stored
   pub numbers : HasNumbers old
   pub on : StandsOn seen images s.engine.hub s.ground old
   pub floor : s.ground.floor ≡ no_name
   pub none : s.ground.lives ≡ []
+  pub running : s.running ≡ None
   pub shelf : ℕ → List Row
   pub world : Stands s.engine (begun_with (content_was old) shelf s)
   pub bare : (id : ℕ) → s.engine.hub.dir.next ≤ id → shelf id ≡ []

@@ -16,8 +16,9 @@ abbrev pub has_to_go : (frames frame : ℕ) → Option (List Entry) → Bool
 has_to_go frames frame None = nat_le frames frame
 has_to_go frames frame (Some part) = nat_le frames frame || nat_lt 1 (length part)
 
--- sessions, tables and transactions are the same, and of the checkpoint what each disk tells alike
+-- sessions, tables, transactions and the checkpoint that runs are the same, and of the last completed one what each disk tells alike
 pub record StaysAlike (s s' : Store) : Type 0 where
+  pub running : s'.running ≡ s.running
   pub frames : s'.frames ≡ s.frames
   pub sessions : s'.engine.sessions ≡ s.engine.sessions
   pub tables : s'.engine.hub.tables ≡ s.engine.hub.tables

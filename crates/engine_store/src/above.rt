@@ -99,6 +99,7 @@ pub(crate) fn store_above<D: Disk>(
                     kept,
                     floor: Name { run: 0, id: 0 },
                 },
+                running: None,
                 frames,
                 clock: Clock::new(),
             })

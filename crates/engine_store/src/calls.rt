@@ -287,6 +287,7 @@ impl Store {
         ensures goes { (h : AHub) → HubGoesOn h self.old.engine.hub → HubGoesOn h self.new.engine.hub }
         ensures fault { self.new.engine.hub.fault ≡ self.old.engine.hub.fault }
         ensures ground { IsSameButKept self.old.ground self.new.ground }
+        ensures running { self.new.running ≡ self.old.running }
         ensures frames { self.new.frames ≡ self.old.frames }
         ensures sessions { length self.new.engine.sessions ≡ length self.old.engine.sessions }
         ensures looked { Looked D.Disk disk.old disk.new }
@@ -316,6 +317,7 @@ impl Store {
         ensures fewer { rounds_left result self.new.engine session < turns_in self.old.engine session + 1 }
         ensures goes { HubGoesOn self.old.engine.hub self.new.engine.hub }
         ensures ground { IsSameButKept self.old.ground self.new.ground }
+        ensures running { self.new.running ≡ self.old.running }
         ensures frames { self.new.frames ≡ self.old.frames }
         ensures sessions { length self.new.engine.sessions ≡ length self.old.engine.sessions }
         ensures looked { Looked D.Disk disk.old disk.new }
@@ -341,6 +343,7 @@ impl Store {
         ensures then { OnOk result ((next : AHub) → HubGoesOn self.new.engine.hub next → HubGoesOn self.old.engine.hub next) }
         ensures goes { OnErr result (HubGoesOn self.old.engine.hub self.new.engine.hub) }
         ensures ground { IsSameButKept self.old.ground self.new.ground }
+        ensures running { self.new.running ≡ self.old.running }
         ensures frames { self.new.frames ≡ self.old.frames }
         ensures sessions { length self.new.engine.sessions ≡ length self.old.engine.sessions }
         ensures looked { Looked D.Disk disk.old disk.new }
@@ -374,6 +377,7 @@ impl Store {
         ensures fewer { OnErr result (turns_in self.new.engine session < turns_in self.old.engine session) }
         ensures goes { HubGoesOn self.old.engine.hub self.new.engine.hub }
         ensures ground { IsSameButKept self.old.ground self.new.ground }
+        ensures running { self.new.running ≡ self.old.running }
         ensures frames { self.new.frames ≡ self.old.frames }
         ensures sessions { length self.new.engine.sessions ≡ length self.old.engine.sessions }
         ensures looked { Looked D.Disk disk.old disk.new }
@@ -402,6 +406,7 @@ impl Store {
         ensures firm { OnOk result (IsFullOf self.old.frames self.old.engine → ⊥) }
         ensures goes { OnOk result (HubGoesOn self.old.engine.hub self.new.engine.hub) }
         ensures ground { IsSameButKept self.old.ground self.new.ground }
+        ensures running { self.new.running ≡ self.old.running }
         ensures frames { self.new.frames ≡ self.old.frames }
         ensures sessions { self.new.engine.sessions ≡ self.old.engine.sessions }
         ensures looked { Looked D.Disk disk.old disk.new }

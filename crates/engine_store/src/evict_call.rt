@@ -119,7 +119,15 @@ impl Store {
         ensures alike { RoomAlike D.Disk self.old self.new disk.old disk.new }
     {
         downs_go();
-        match evict(alloc, disk, &mut self.ground, &mut self.engine, leaf) {
+        let running = self.running.as_ref();
+        match evict(
+            alloc,
+            disk,
+            &mut self.ground,
+            &mut self.engine,
+            running,
+            leaf,
+        ) {
             Ok(Evicted::Stays(why)) => Err(self.kept_by(alloc, leaf, why)),
             Ok(Evicted::Unresolved(by)) => Err(Refusal::Busy(Busy::Unresolved(by))),
             Ok(_) => self.told_out(table.as_bytes(), key.as_bytes()),
@@ -140,7 +148,7 @@ impl Store {
 
     // What is told where a leaf stays for this reason.
     pub(crate) fn kept_by(&self, alloc: Global, leaf: u64, why: Stays) -> Refusal
-        ensures told { WhyNotNow self.now.engine leaf why → IsKeptBy self.now.engine leaf result }
+        ensures told { (w : World) → Stands self.now.engine w → WhyNotNow self.now.engine w.machine leaf why → IsKeptBy self.now.engine w.machine leaf result }
         ensures own { result ≢ Refusal.DiskFault }
     {
         match why {
@@ -157,7 +165,7 @@ impl Store {
 
     // What is told where the transaction of a session wrote in a leaf, and has not ended.
     fn written_by(&self, alloc: Global, leaf: u64, session: u32) -> Refusal
-        ensures told { WhyNotNow self.now.engine leaf (Stays.Written session) → IsKeptBy self.now.engine leaf result }
+        ensures told { (w : World) → Stands self.now.engine w → WhyNotNow self.now.engine w.machine leaf (Stays.Written session) → IsKeptBy self.now.engine w.machine leaf result }
         ensures own { result ≢ Refusal.DiskFault }
     {
         match unended_in(alloc, &self.engine, leaf) {

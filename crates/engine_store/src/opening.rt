@@ -82,6 +82,7 @@ fn store_on_nothing(alloc: Global, place: Place, frames: Frames) -> Result<Store
             kept: Kept::new(alloc),
             floor: Name { run: 0, id: 0 },
         },
+        running: None,
         frames,
         clock: Clock::new(),
     })

@@ -19,7 +19,7 @@ use std::alloc::Global;
 impl Store {
     /// Behind a call, whoever is at work: some leaves are evicted (`ckpt_step::evict`), so that the
     /// newest version of each of their keys stands in a block that the live tree alone has, and they are
-    /// in no frame. Older versions that somebody may still want stay in memory, and come back with their
+    /// in no frame. Older versions that somebody may still want, as a checkpoint that runs, stay in memory, and come back with their
     /// leaf. One that has grown past one block parts: leaves of several such blocks, in no frame either,
     /// have its place, and each has the older versions of its keys. Calls read them when they need them,
     /// the next checkpoint keeps them as they stand, and an opening knows nothing of them.
@@ -160,7 +160,15 @@ impl Store {
         ensures alike { RoomAlike D.Disk self.old self.new disk.old disk.new }
     {
         downs_go();
-        match evict(alloc, disk, &mut self.ground, &mut self.engine, leaf) {
+        let running = self.running.as_ref();
+        match evict(
+            alloc,
+            disk,
+            &mut self.ground,
+            &mut self.engine,
+            running,
+            leaf,
+        ) {
             Ok(_) => true,
             Err(refusal) => is_short(refusal),
         }

@@ -1,6 +1,6 @@
 //! Leaves that are written out of memory between two checkpoints.
 
-ghost use Rattle.std.specs.Prelude.{◌≡◌, length, IfErr};
+ghost use Rattle.std.specs.Prelude.{◌≡◌, None, length, IfErr};
 ghost use Rattle.failure.specs.Counts.{Rose};
 ghost use Rattle.disk_model.specs.Crash.{SameDisk};
 ghost use Rattle.ckpt_step.specs.Takes.{IsOfCheckpoint};
@@ -19,8 +19,8 @@ use wt_code::Refusal;
 pub const CHANGED_LEAST: usize = 1_000;
 
 impl Store {
-    /// While no session has a call, a transaction or a cursor on a leaf, each leaf in a frame of which
-    /// `CHANGED_LEAST` keys or more were written since it was read is written out
+    /// While no checkpoint runs, and no session has a call, a transaction or a cursor on a leaf, each leaf in
+    /// a frame of which `CHANGED_LEAST` keys or more were written since it was read is written out
     /// (`ckpt_step::write_out`): the newest version of each of its keys stands then in blocks that no
     /// checkpoint has, and the leaves of these blocks, which are in no frame, stand in its place. Calls
     /// read them when they need them, the next checkpoint keeps them as they stand, and an opening knows
@@ -52,6 +52,9 @@ impl Store {
         ensures alike { WritesAlike D.Disk self.old self.new disk.old disk.new result }
         ensures refusals { IfErr result IsOfCheckpoint }
     {
+        if self.running.is_some() {
+            return Ok(());
+        }
         if !self.engine.is_idle() {
             return Ok(());
         }
@@ -84,6 +87,7 @@ impl Store {
 
     // Writes a leaf out. It stays where it may not go, and where memory or room is short.
     fn write_leaf<D: Disk>(&mut self, alloc: Global, disk: &mut D, leaf: u64) -> Result<(), Refusal>
+        requires free { self.old.running ≡ None }
         ensures writes { WritesFrom D.Disk self.old self.new disk.old disk.new result }
         ensures alike { WritesAlike D.Disk self.old self.new disk.old disk.new result }
         ensures refusals { IfErr result IsOfCheckpoint }

@@ -9,6 +9,7 @@ mod leaves;
 mod older;
 mod room;
 mod spoilt;
+mod started;
 mod written_out;
 
 use bench::Row;

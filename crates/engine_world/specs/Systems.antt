@@ -9,7 +9,7 @@ use Rattle.stamp.specs.declared.Version.{Version}
 use Rattle.kv_model.specs.AgreementLaws.{head_of}
 use Rattle.kv_model.specs.Content.{Content, base, descending, start, table_lt}
 use Rattle.kv_model.specs.History.{Table, line}
-use Rattle.kv_model.specs.Machine.{Machine, OpenSession, CreateTable, SetStamps, CheckpointStart, CheckpointFinish, GoDown, after}
+use Rattle.kv_model.specs.Machine.{Machine, Checkpoint, OpenSession, CreateTable, SetStamps, CheckpointStart, CheckpointFinish, CheckpointDrop, GoDown, after, finished}
 use Rattle.kv_model.specs.Refusals.{set_rules, stamp_of}
 use Rattle.kv_model.specs.Regular.{IsRegular}
 use Rattle.stored.specs.Links.{nowhere}
@@ -83,6 +83,18 @@ FramesGrow = (e : Engine) (w : World) → Stands e w → Stands (with_frame e) w
 -- a checkpoint starts and finishes, with nobody between
 abbrev pub checkpointed : Machine → Machine
 checkpointed m = after (after m CheckpointStart) CheckpointFinish
+
+-- Each event of a checkpoint changes nothing of the engine: it starts,
+abbrev pub CheckpointsStart : Type 0
+CheckpointsStart = (e : Engine) (w : World) → Stands e w → w.machine.checkpoint ≡ None → NoneResolves w.machine → Stands e (record w { machine = after w.machine CheckpointStart })
+
+-- is finished,
+abbrev pub CheckpointsFinish : Type 0
+CheckpointsFinish = (e : Engine) (w : World) (c : Checkpoint) → Stands e w → w.machine.checkpoint ≡ Some c → Stands e (record w { machine = finished w.machine c })
+
+-- or ends without having been finished.
+abbrev pub CheckpointsDrop : Type 0
+CheckpointsDrop = (e : Engine) (w : World) → Stands e w → Stands e (record w { machine = after w.machine CheckpointDrop })
 
 -- a checkpoint in one go changes nothing of the engine
 abbrev pub CheckpointsGo : Type 0

@@ -6,7 +6,7 @@ ghost use Rattle.engine_world.specs.Evicting.{LeavesAreEvicted, LeavesAreEvicted
 ghost use Rattle.engine_world.specs.GivingWay.{LeavesGiveWay};
 ghost use Rattle.engine_world.specs.Parting.{LeavesPart};
 ghost use Rattle.engine_world.specs.GoingOut.{LeavesGoOut, LeavesGoOutUnseen};
-ghost use Rattle.engine_world.specs.Systems.{CheckpointsGo, CreatesGo, DownsGo, EnginesStart, FramesGrow, OpensGo, SetsGo};
+ghost use Rattle.engine_world.specs.Systems.{CheckpointsDrop, CheckpointsFinish, CheckpointsGo, CheckpointsStart, CreatesGo, DownsGo, EnginesStart, FramesGrow, OpensGo, SetsGo};
 
 use kv_model::{evictions_stand, frames_are_alike};
 use tree_dir::leaves_give_way as directories_give_way;
@@ -97,9 +97,13 @@ pub fn leaves_part()
     evictions_stand();
 }
 
-/// A checkpoint starts and finishes, with nobody between. None runs, and no prepared transaction is being resolved.
+/// A checkpoint starts, is finished, or ends without that. It starts while none runs and no prepared
+/// transaction is being resolved. It may start and finish with nobody between.
 pub fn checkpoints_go()
-    ensures { CheckpointsGo }
+    ensures start { CheckpointsStart }
+    ensures finish { CheckpointsFinish }
+    ensures drop { CheckpointsDrop }
+    ensures one { CheckpointsGo }
 {
     chains_go_on();
 }

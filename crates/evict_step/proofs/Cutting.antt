@@ -36,7 +36,9 @@ use Rattle.engine_world.specs.Stands.{Engine, Stands}
 use Rattle.engine_world.specs.Worlds.{World}
 use Rattle.engine_world.proofs.Emptying.{mine, mine-at}
 use Rattle.engine_world.proofs.Homes.{lies-or-not}
+use Rattle.engine.specs.declared.running_checkpoint.RunningCheckpoint.{RunningCheckpoint}
 use Rattle.engine.specs.Evictions.{MayBeEvicted}
+use Rattle.engine.specs.Running.{RunsAs}
 use Rattle.engine.proofs.Evictions.{may-at}
 use Rattle.engine.proofs.LeavesCome.{named-there}
 use Rattle.evict_step.specs.declared.cut.CutOut.{CutOut}
@@ -66,11 +68,11 @@ module _ (e : Engine) (id : ℕ) (may : MayBeEvicted e id) (w : World) (st : Sta
   bare-of : (key : List ℕ) → leaf_under l.table key e.hub.dir.leaves ≢ Some l → held_at key f.leaf.page f.leaf.chains ≡ []
   bare-of key outside = none-held e id (sits-may e id may) w st key outside
 
-  pub cut-evicts : KeysAreReconciled → (images : List Image) (moved : List Moved) → (c : IsCutFrom e f.leaf images moved) → w.machine.checkpoint ≡ None → IsEvictedTo w.machine e.hub.dir.leaves l f c.rows (λ key. versions_in key moved)
-  cut-evicts law images moved c none = record {
+  pub cut-evicts : KeysAreReconciled → (running : Option RunningCheckpoint) (images : List Image) (moved : List Moved) → (c : IsCutFrom e running f.leaf images moved) → RunsAs w.machine running → IsEvictedTo w.machine e.hub.dir.leaves l f c.rows (λ key. versions_in key moved)
+  cut-evicts law running images moved c runs = record {
     past = is_past c.pin c.floor;
     covers = λ key under v there is. let p = and_parts (nat_le v.window.durable c.pin) (is_below v.window.name c.floor) is in
-        (c.past w st none l.table key).cover v there (leb-true v.window.durable c.pin p.0) p.1;
+        (c.past w st runs l.table key).cover v there (leb-true v.window.durable c.pin p.0) p.1;
     ended = λ key under v there each. held-ended w.machine l.table key (chain_at key f.leaf.chains) (shown_at key f.leaf.page) st.valid (stand key under) v there
         (λ live. both_ways (is_seen c.sight v.window.name) ((c.living w st).unseen v.window.name live) (c.seen key v there));
     made = λ key under. subst (λ (o : Option (Version Change)). ReconciledLists Older (is_live All) (is_past c.pin c.floor) (held_at key f.leaf.page f.leaf.chains) o (versions_in key moved)) (sym (c.reconciled.shows key))
@@ -89,21 +91,22 @@ module _ (e : Engine) (id : ℕ) (may : MayBeEvicted e id) (w : World) (st : Sta
 
 -- ---- what is told
 
-cut-out : KeysAreReconciled → (e : Engine) (id : ℕ) (may : MayBeEvicted e id) (held : HeldLeaf) → held_in e id ≡ Some held → (out : CutOut) → IsCutOf e held out → IsCutOut e id out
-cut-out law e id may held there (Stays why) of = absurd of
-cut-out law e id may held there (Unresolved by) of = tells e id held there (Some by) of
-cut-out law e id may held there (Images made) of = record {
+cut-out : KeysAreReconciled → (e : Engine) (running : Option RunningCheckpoint) (id : ℕ) (may : MayBeEvicted e id) (held : HeldLeaf) → held_in e id ≡ Some held → (out : CutOut) → IsCutOf e running held out → IsCutOut e running id out
+cut-out law e running id may held there (Stays why) of = absurd of
+cut-out law e running id may held there (Unresolved by) of = tells e id held there (Some by) of
+cut-out law e running id may held there (Images made) of = record {
   may = may;
   rows = cut.rows;
   are = cut.are;
   fit = cut.reconciled.fit;
   in_order = cut.in_order;
   moved_fit = cut.moved_fit;
-  evicted = λ w st none. cut-evicts e id may w st law made.images.items made.moved.items cut none;
+  evicted = λ w st runs. cut-evicts e id may w st law running made.images.items made.moved.items cut runs;
 } where
-  cut : IsCutFrom e may.frame.leaf made.images.items made.moved.items
-  cut = subst (λ (x : HeldLeaf). IsCutFrom e x made.images.items made.moved.items) (same_Some held may.frame.leaf (sym there ∙ held-may e id may)) of
+  cut : IsCutFrom e running may.frame.leaf made.images.items made.moved.items
+  cut = subst (λ (x : HeldLeaf). IsCutFrom e running x made.images.items made.moved.items) (same_Some held may.frame.leaf (sym there ∙ held-may e id may)) of
 
-pub cuts-out : {E : Type 0} → KeysAreReconciled → (e : Engine) (id : ℕ) (may : MayBeEvicted e id) (held : HeldLeaf) → held_in e id ≡ Some held → (told : Result CutOut E) → IfOk told (λ out. IsCutOf e held out) → IfOk told (λ out. IsCutOut e id out)
-cuts-out law e id may held there (Ok out) of = cut-out law e id may held there out of
-cuts-out law e id may held there (Err error) of = tt
+pub cuts-out : {E : Type 0} → KeysAreReconciled → (e : Engine) (running : Option RunningCheckpoint) (id : ℕ) (may : MayBeEvicted e id) (held : HeldLeaf) → held_in e id ≡ Some held
+    → (told : Result CutOut E) → IfOk told (λ out. IsCutOf e running held out) → IfOk told (λ out. IsCutOut e running id out)
+cuts-out law e running id may held there (Ok out) of = cut-out law e running id may held there out of
+cuts-out law e running id may held there (Err error) of = tt

@@ -23,7 +23,7 @@ use Rattle.update_chain.proofs.Meeting.{counts-writes, has-writes, writer-drawn}
 use Rattle.reconcile.specs.Held.{versions}
 
 -- what stands is of a transaction that has ended, where that does not live
-line-ended : (m : Machine) (table : ℕ) (key : List ℕ) (v : Version Change) → Valid m → Member v (line m.history table key) → (IsLive m v.window.name → ⊥) → HasEnded m v.window.name
+pub line-ended : (m : Machine) (table : ℕ) (key : List ℕ) (v : Version Change) → Valid m → Member v (line m.history table key) → (IsLive m v.window.name → ⊥) → HasEnded m v.window.name
 line-ended m table key v valid at not s t there name = by-phase t.phase refl where
   seen : released m.history (length m.history) (name_of m t) ≡ true
   seen = subst (λ n. released m.history (length m.history) n ≡ true) name (line-released m.history valid.orderly table key v at)

@@ -26,7 +26,9 @@ use Rattle.engine_world.specs.Evicting.{IsEvictedTo}
 use Rattle.engine_world.specs.Leaves.{frame_in}
 use Rattle.engine_world.specs.Stands.{Engine, Stands}
 use Rattle.engine_world.specs.Worlds.{World}
+use Rattle.engine.specs.declared.running_checkpoint.RunningCheckpoint.{RunningCheckpoint}
 use Rattle.engine.specs.Evictions.{KeepsLeaf, MayBeEvicted, framed_in}
+use Rattle.engine.specs.Running.{RunsAs}
 use Rattle.evict_step.specs.Backs.{AllFit}
 use Rattle.evict_step.specs.declared.cut.CutOut.{CutOut}
 use Rattle.evict_step.specs.declared.cut.CutOut.TheVariants.{Stays, Unresolved, Images}
@@ -37,8 +39,8 @@ held_in e id = option_and_then (λ (framed : Framed). option_map (λ (f : Frame)
 
 -- ---- what is told
 
--- The images have rows, and the history what moves, by which the leaf may be evicted, in every world for which the engine stands and in which no checkpoint runs.
-pub record AreCut (e : Engine) (id : ℕ) (images : List Image) (moved : List Moved) : Type 0 where
+-- The images have rows, and the history what moves, by which the leaf may be evicted, in every world for which the engine stands and in which this checkpoint runs, or none.
+pub record AreCut (e : Engine) (running : Option RunningCheckpoint) (id : ℕ) (images : List Image) (moved : List Moved) : Type 0 where
   pub may : MayBeEvicted e id
   pub rows : List Row
   pub are : AreImages images rows
@@ -46,7 +48,7 @@ pub record AreCut (e : Engine) (id : ℕ) (images : List Image) (moved : List Mo
   -- by key in ascending order, and each fits a row
   pub in_order : InKeyOrder moved
   pub moved_fit : AllFit moved
-  pub evicted : (w : World) → Stands e w → w.machine.checkpoint ≡ None → IsEvictedTo w.machine e.hub.dir.leaves may.leaf may.frame rows (λ key. versions_in key moved)
+  pub evicted : (w : World) → Stands e w → RunsAs w.machine running → IsEvictedTo w.machine e.hub.dir.leaves may.leaf may.frame rows (λ key. versions_in key moved)
 
 -- The leaf of this id holds a version of the transaction of this id, which has not ended.
 pub record HoldsUnended (e : Engine) (m : Machine) (id by : ℕ) : Type 0 where
@@ -76,10 +78,10 @@ pub record HoldsLeastUnseen (s : Sight) (held : HeldLeaf) (id : ℕ) : Type 0 wh
   pub holds : HoldsUnseen s held id
   pub least : (u : Update) → HasUpdate u held.chains → IsUnseen s u → id ≤ u.version.window.name.id
 
-abbrev pub IsCutOut : Engine → ℕ → CutOut → Type 0
-IsCutOut e id (Stays why) = KeepsLeaf e id why
-IsCutOut e id (Unresolved by) = (w : World) → Stands e w → IsLeastUnended e w.machine id by
-IsCutOut e id (Images made) = AreCut e id made.images.items made.moved.items
+abbrev pub IsCutOut : Engine → Option RunningCheckpoint → ℕ → CutOut → Type 0
+IsCutOut e running id (Stays why) = KeepsLeaf e id why
+IsCutOut e running id (Unresolved by) = (w : World) → Stands e w → IsLeastUnended e w.machine id by
+IsCutOut e running id (Images made) = AreCut e running id made.images.items made.moved.items
 
 -- the least id that is unended in the leaf, if there is one
 abbrev pub TellsUnended : Engine → ℕ → Option ℕ → Type 0
@@ -93,7 +95,7 @@ abbrev pub AllHeldSeen : Sight → HeldLeaf → Type 0
 AllHeldSeen s held = (key : List ℕ) (v : Version Change) → Member v (held_at key held.page held.chains) → is_seen s v.window.name ≡ true
 
 -- no version is of a transaction that has not ended, and these move
-pub record IsCutFrom (e : Engine) (held : HeldLeaf) (images : List Image) (moved : List Moved) : Type 0 where
+pub record IsCutFrom (e : Engine) (running : Option RunningCheckpoint) (held : HeldLeaf) (images : List Image) (moved : List Moved) : Type 0 where
   pub rows : List Row
   pub are : AreImages images rows
   pub reconciled : IsReconciled (is_live All) held.page held.chains rows
@@ -102,7 +104,7 @@ pub record IsCutFrom (e : Engine) (held : HeldLeaf) (images : List Image) (moved
   pub moves : (key : List ℕ) → versions_in key moved ≡ moved_of (is_live All) (is_past pin floor) (held_at key held.page held.chains)
   pub in_order : InKeyOrder moved
   pub moved_fit : AllFit moved
-  pub past : (w : World) → Stands e w → w.machine.checkpoint ≡ None → (table : ℕ) (key : List ℕ) → IsPast w.machine table key pin floor
+  pub past : (w : World) → Stands e w → RunsAs w.machine running → (table : ℕ) (key : List ℕ) → IsPast w.machine table key pin floor
   pub sight : Sight
   pub seen : AllHeldSeen sight held
   pub living : (w : World) → Stands e w → SeesNoneLiving w.machine sight
@@ -119,7 +121,7 @@ pub record AllOfEnded (e : Engine) (held : HeldLeaf) : Type 0 where
   pub seen : AllHeldSeen sight held
   pub living : (w : World) → Stands e w → SeesNoneLiving w.machine sight
 
-abbrev pub IsCutOf : Engine → HeldLeaf → CutOut → Type 0
-IsCutOf e held (Stays why) = ⊥
-IsCutOf e held (Unresolved by) = IsOfUnended e held by
-IsCutOf e held (Images made) = IsCutFrom e held made.images.items made.moved.items
+abbrev pub IsCutOf : Engine → Option RunningCheckpoint → HeldLeaf → CutOut → Type 0
+IsCutOf e running held (Stays why) = ⊥
+IsCutOf e running held (Unresolved by) = IsOfUnended e held by
+IsCutOf e running held (Images made) = IsCutFrom e running held made.images.items made.moved.items

@@ -1,11 +1,11 @@
 //! What a leaf is cut into.
 
-ghost use Rattle.std.specs.Prelude.{◌≡◌, None, MatchOption, option_map, IfOk, IfSome};
+ghost use Rattle.std.specs.Prelude.{◌≡◌, None, MatchOption, option_copied, option_map, IfOk, IfSome};
 ghost use Rattle.reconcile.specs.Capture.{ChainsFit};
 ghost use Rattle.evict_step.specs.Cuts.{AllOfEnded, IsCutOf, IsCutOut, IsOfUnended, TellsUnended, held_in};
 
 use crate::held::unresolved_in;
-use engine::{Local, Stays};
+use engine::{Local, RunningCheckpoint, Stays};
 use failure::NoMemory;
 use leaf_frame::LeafFrame;
 use reconcile::{Live, Made, keys_are_reconciled};
@@ -26,10 +26,16 @@ pub enum CutOut {
 }
 
 /// Cuts the leaf of this id into the images that are written where it is evicted: the newest version
-/// of each key, a removal too; and into the older versions that move to the history. Nothing is
-/// changed. The error is want of memory. `O(rows + updates + bytes)`, and `O(n log n)` in the sessions.
-pub fn cut_out(alloc: Global, engine: &Local, leaf: u64) -> Result<CutOut, NoMemory>
-    ensures { IfOk result (λ out. IsCutOut engine.now leaf out) }
+/// of each key, a removal too; and into the older versions that move to the history, those too that the
+/// checkpoint can want that runs, if one does. Nothing is changed. The error is want of memory.
+/// `O(rows + updates + bytes)`, and `O(n log n)` in the sessions.
+pub fn cut_out(
+    alloc: Global,
+    engine: &Local,
+    running: Option<&RunningCheckpoint>,
+    leaf: u64,
+) -> Result<CutOut, NoMemory>
+    ensures { IfOk result (λ out. IsCutOut engine.now (option_copied running.entry) leaf out) }
 {
     keys_are_reconciled();
     if let Some(why) = engine.why_it_stays(leaf) {
@@ -37,7 +43,7 @@ pub fn cut_out(alloc: Global, engine: &Local, leaf: u64) -> Result<CutOut, NoMem
     }
     match frame_of(engine, leaf) {
         None => Ok(CutOut::Stays(Stays::Away)),
-        Some(frame) => cut(alloc, engine, frame),
+        Some(frame) => cut(alloc, engine, running, frame),
     }
 }
 
@@ -72,16 +78,21 @@ fn frame_of(engine: &Local, leaf: u64) -> Option<&LeafFrame>
 }
 
 // Cuts a leaf that is in a frame of this engine.
-fn cut(alloc: Global, engine: &Local, leaf: &LeafFrame) -> Result<CutOut, NoMemory>
+fn cut(
+    alloc: Global,
+    engine: &Local,
+    running: Option<&RunningCheckpoint>,
+    leaf: &LeafFrame,
+) -> Result<CutOut, NoMemory>
     requires fit { ChainsFit leaf.now.chains }
-    ensures { IfOk result (λ out. IsCutOf engine.now leaf.now out) }
+    ensures { IfOk result (λ out. IsCutOf engine.now (option_copied running.entry) leaf.now out) }
 {
     ended_are_seen();
     let live = engine.checkpoint_snapshot(alloc)?;
     if let Some(id) = unresolved_in(leaf, &live) {
         return Ok(CutOut::Unresolved(id));
     }
-    let horizon = engine.horizon();
+    let horizon = engine.horizon(running);
     // Its rows fit, so each that moves does.
     let _page = leaf.page();
     let made = leaf.reconcile(alloc, Live::All, horizon.pin, horizon.floor)?;

@@ -127,7 +127,7 @@ fn seek(rt: &impl Abort, alloc: Global, engine: &mut Local) {
 // Why the leaf in the first frame stays, if it does.
 fn stays(rt: &impl Abort, alloc: Global, engine: &Local) -> Option<Stays> {
     let leaf = engine.id_in(0).expect(rt, "a leaf");
-    match cut_out(alloc, engine, leaf) {
+    match cut_out(alloc, engine, None, leaf) {
         Ok(CutOut::Stays(why)) => Some(why),
         _ => None,
     }
@@ -138,7 +138,7 @@ fn cut(rt: &impl Abort, alloc: Global, engine: &Local) -> Made
     ensures { AllFit result.moved.items }
 {
     let leaf = engine.id_in(0).expect(rt, "a leaf");
-    match cut_out(alloc, engine, leaf) {
+    match cut_out(alloc, engine, None, leaf) {
         Ok(CutOut::Images(made)) => made,
         _ => panic!(rt; "it is not cut"),
     }

@@ -1,21 +1,21 @@
--- What is gathered of all leaves is what a checkpoint wants.
-use Rattle.std.specs.Prelude.{◌≡◌, ◌⊎◌, ℕ, ◌<◌, List, [], ◌∷◌, ◌++◌, length, Option, Some, None, option_and_then, option_map, reverse, slice_get, refl}
+-- What is gathered of all leaves is what a running checkpoint wants.
+use Rattle.std.specs.Prelude.{◌≡◌, ◌⊎◌, ℕ, ◌<◌, List, [], ◌∷◌, ◌++◌, find, length, Option, Some, None, option_and_then, option_map, slice_get, refl}
 use Rattle.std.specs.List.{Contains}
 use Rattle.std.specs.Option.{option_to_list}
-use Rattle.std.proofs.Common.{inl, inr, sym, ◌∙◌, ap, subst}
+use Rattle.std.proofs.Common.{inl, inr, sym, ◌∙◌, ap, subst, arith}
 use Rattle.std.proofs.lemmas.List.{append-nil}
 use Rattle.std.proofs.lemmas.Option.{same_Some}
 use Rattle.item.specs.declared.Change.{Change}
 use Rattle.stamp.specs.declared.Version.{Version}
-use Rattle.kv_model.specs.AgreementLaws.{head_of}
 use Rattle.kv_model.specs.Captures.{CapturedIn}
 use Rattle.kv_model.specs.Holds.{Member}
 use Rattle.kv_model.specs.History.{Table, line}
-use Rattle.kv_model.specs.Machine.{Machine}
+use Rattle.kv_model.specs.Machine.{Checkpoint, Machine}
+use Rattle.kv_model.specs.Reconciling.{PrefixHasEnded}
 use Rattle.kv_model.specs.StoreLaws.{Held}
 use Rattle.kv_model.specs.SweepLaws.{Added}
 use Rattle.reconcile.specs.Shows.{shown_at}
-use Rattle.snapshot.specs.Matters.{NoneResolves}
+use Rattle.snapshot.specs.Sight.{Sight}
 use Rattle.update_chain.specs.declared.update.Update.{Update}
 use Rattle.leaf_chains.specs.Slots.{chain_at}
 use Rattle.reconcile.specs.Held.{held_at, is_past, moved_of, versions}
@@ -24,7 +24,6 @@ use Rattle.leaf_frame.specs.Leaf.{HeldLeaf}
 use Rattle.tree_dir.specs.declared.leaf.Framed.{Framed}
 use Rattle.tree_dir.specs.declared.leaf.Leaf.{Leaf}
 use Rattle.tree_dir.specs.Leaves.{Directory, leaf_under}
-use Rattle.tree_dir.proofs.Parting.{has-under, keys-have}
 use Rattle.call_steps.specs.declared.frame.Frame.{Frame}
 use Rattle.engine_world.specs.Leaves.{LeafInFrame, LeafOnDevice, frame_in}
 use Rattle.engine_world.specs.Stands.{Engine, Stands}
@@ -34,18 +33,19 @@ use Rattle.evict_step.specs.Kept.{KeepsThese, but_rows, list_of, records_in}
 use Rattle.evict_step.proofs.Again.{other_or_row, others_among}
 use Rattle.hist_store.specs.declared.key_history.KeyHistory.{KeyHistory}
 use Rattle.hist_store.specs.Versions.{versions_of}
-use Rattle.ckpt_content.specs.Older.{HaveOlder, checkpoint_now}
+use Rattle.ckpt_content.specs.Finished.{tables_then}
 use Rattle.hist_gather.specs.declared.source.Source.{Source}
 use Rattle.hist_gather.specs.Added.{HasMore}
-use Rattle.hist_gather.specs.Sources.{IsTaken, OfPlaces, held_by, moved_at, older_at, older_in, sees}
-use Rattle.hist_gather.proofs.KeyGathered.{Laws, device-held, frame-held, row-newest, set-held, wider-held}
-use Rattle.hist_gather.proofs.Members.{in_front, in_table, member_at, table_in, turned_member}
+use Rattle.hist_gather.specs.Sources.{HaveTaken, IsTaken, OfPlaces, cell_in, ended_sight, held_by, moved_at, older_at, older_in, sees}
+use Rattle.hist_gather.proofs.KeyGathered.{Laws, device-held, frame-held, set-held, wider-held}
+use Rattle.hist_gather.proofs.Members.{in_front, in_table, table_in}
+use Rattle.hist_gather.proofs.Then.{then_place}
 
 no-member : (l : List (Version Change)) → ((v : Version Change) → Member v l → ⊥) → l ≡ []
 no-member [] none = refl
 no-member (v ∷ l) none = absurd (none v (inl refl))
 
-module _ (laws : Laws) (from : Source) (w : World) (st : Stands from.engine.now w) (keeps : KeepsThese w from.kept.now) (none : w.machine.checkpoint ≡ None) (resolves : NoneResolves w.machine) (taken : IsTaken w.machine from.snapshot.now.sight from.horizon) where
+module _ (laws : Laws) (from : Source) (w : World) (c : Checkpoint) (st : Stands from.engine.now w) (keeps : KeepsThese w from.kept.now) (runs : w.machine.checkpoint ≡ Some c) (ended : PrefixHasEnded w.machine c) (taken : IsTaken w.machine from.snapshot.now.sight from.horizon) where
   abbrev e : Engine
   e = from.engine.now
 
@@ -55,9 +55,12 @@ module _ (laws : Laws) (from : Source) (w : World) (st : Stands from.engine.now 
   abbrev d : Directory
   d = e.hub.dir
 
-  -- what is gathered of a key is captured with its newest version
-  abbrev IsCaptured : ℕ → List ℕ → List (Version Change) → Type 0
-  IsCaptured table key older = CapturedIn m (checkpoint_now m) table key (head_of (line m.history table key)) (Held older)
+  abbrev cell : Leaf → List ℕ → Option (Version Change)
+  cell l key = cell_in from.snapshot.now.sight (w.shelf l.id) (held_by e l) key
+
+  -- what is gathered of a key is captured with the cell of its leaf
+  abbrev IsCaptured : Leaf → ℕ → List ℕ → List (Version Change) → Type 0
+  IsCaptured l table key older = CapturedIn m c table key (cell l key) (Held older)
 
   -- ---- a leaf in a frame
 
@@ -71,10 +74,14 @@ module _ (laws : Laws) (from : Source) (w : World) (st : Stands from.engine.now 
     older-framed : (key : List ℕ) → older_at from l key ≡ moved_at from held key
     older-framed key = ap (λ (o : Option HeldLeaf). older_in from l.id o key) there
 
-    framed-own : (key : List ℕ) → LiesIn d.leaves l key → IsCaptured l.table key (older_at from l key ++ [])
-    framed-own key lies = subst (λ (older : List (Version Change)). IsCaptured l.table key (older ++ [])) (sym (older-framed key))
-        (frame-held laws m st.valid none resolves l.table key (chain_at key held.chains) (shown_at key held.page) (f.keys key lies) from.snapshot.now.sight taken.committed taken.living
-        from.horizon.pin from.horizon.floor (taken.past l.table key))
+    cell-framed : (key : List ℕ) → cell l key ≡ find (sees from.snapshot.now.sight) (held_at key held.page held.chains)
+    cell-framed key = ap (λ (o : Option HeldLeaf). cell_in from.snapshot.now.sight (w.shelf l.id) o key) there
+
+    framed-own : (key : List ℕ) → LiesIn d.leaves l key → IsCaptured l l.table key (older_at from l key ++ [])
+    framed-own key lies = subst (λ (o : Option (Version Change)). CapturedIn m c l.table key o (Held (older_at from l key ++ []))) (sym (cell-framed key))
+        (subst (λ (older : List (Version Change)). CapturedIn m c l.table key (find (sees from.snapshot.now.sight) (held_at key held.page held.chains)) (Held (older ++ []))) (sym (older-framed key))
+        (frame-held laws m c st.valid runs ended l.table key (chain_at key held.chains) (shown_at key held.page) (f.keys key lies) from.snapshot.now.sight taken.ended
+        from.horizon.pin from.horizon.floor (taken.past l.table key)))
 
     framed-other : (key : List ℕ) → (LiesIn d.leaves l key → ⊥) → older_at from l key ≡ []
     framed-other key outside =
@@ -88,27 +95,38 @@ module _ (laws : Laws) (from : Source) (w : World) (st : Stands from.engine.now 
     abbrev all : List ℕ → List (Version Change)
     all key = records_in from.kept.now l.id key
 
+    away : held_by e l ≡ None
+    away = ap (option_and_then (λ (framed : Framed). option_map (λ (g : Frame). g.leaf) (frame_in e.pieces framed.frame))) f.none
+
     older-kept : (key : List ℕ) → older_at from l key ≡ all key
-    older-kept key = ap (λ (o : Option HeldLeaf). older_in from l.id o key) (ap (option_and_then (λ (framed : Framed). option_map (λ (g : Frame). g.leaf) (frame_in e.pieces framed.frame))) f.none)
+    older-kept key = ap (λ (o : Option HeldLeaf). older_in from l.id o key) away
+
+    -- its cell is its row
+    cell-away : (key : List ℕ) → cell l key ≡ shown_at key (w.shelf l.id)
+    cell-away key = ap (λ (o : Option HeldLeaf). cell_in from.snapshot.now.sight (w.shelf l.id) o key) away
+
+    abbrev IsCapturedRow : List ℕ → List (Version Change) → Type 0
+    IsCapturedRow key older = CapturedIn m c l.table key (shown_at key (w.shelf l.id)) (Held older)
 
     -- what the history has of the leaf is kept of it
     among : (key : List ℕ) (v : Version Change) → Member v (w.records l.id key ++ []) → Member v (all key ++ [])
     among key v there =
         in_front (all key) [] v (others_among (w.shelf l.id) (list_of from.kept.now l.id) key v (subst (λ (vs : List (Version Change)). Member v vs) (append-nil (w.records l.id key) ∙ keeps l.id key) there))
 
-    -- what is kept besides is the row of its key, which is the newest version
-    stands-in : (key : List ℕ) (captured : IsCaptured l.table key (w.records l.id key ++ [])) → LiesIn d.leaves l key → (v : Version Change) → Member v (all key ++ []) → Member v (line m.history l.table key)
-    stands-in key captured lies v there =
+    -- what is kept besides is the row of its key
+    stands-in : (key : List ℕ) (captured : IsCapturedRow key (w.records l.id key ++ [])) → (v : Version Change) → Member v (all key ++ []) → Member v (line m.history l.table key)
+    stands-in key captured v there =
         elim (other_or_row (w.shelf l.id) (list_of from.kept.now l.id) key v (subst (λ (vs : List (Version Change)). Member v vs) (append-nil (all key)) there)) [
           | inl other ↦ captured.within v (in_front (w.records l.id key) [] v (subst (λ (vs : List (Version Change)). Member v vs) (sym (keeps l.id key)) other))
-          | inr row ↦ captured.cell_there v (sym (row-newest laws m st.valid none resolves l.table key (shown_at key (w.shelf l.id)) (w.records l.id key) (f.keys key lies)) ∙ row)
+          | inr row ↦ captured.cell_there v row
         ]
 
-    kept-own : (key : List ℕ) → LiesIn d.leaves l key → IsCaptured l.table key (older_at from l key ++ [])
+    kept-own : (key : List ℕ) → LiesIn d.leaves l key → IsCaptured l l.table key (older_at from l key ++ [])
     kept-own key lies =
-        let captured : IsCaptured l.table key (w.records l.id key ++ []) = device-held laws m st.valid none resolves l.table key (shown_at key (w.shelf l.id)) (w.records l.id key) (f.keys key lies) in
-        subst (λ (older : List (Version Change)). IsCaptured l.table key (older ++ [])) (sym (older-kept key))
-        (wider-held laws m st.valid none resolves l.table key (head_of (line m.history l.table key)) (w.records l.id key ++ []) (all key ++ []) (among key) (stands-in key captured lies) captured)
+        let captured : IsCapturedRow key (w.records l.id key ++ []) = device-held laws m c st.valid runs ended l.table key (shown_at key (w.shelf l.id)) (w.records l.id key) (f.keys key lies) in
+        subst (λ (o : Option (Version Change)). CapturedIn m c l.table key o (Held (older_at from l key ++ []))) (sym (cell-away key))
+        (subst (λ (older : List (Version Change)). IsCapturedRow key (older ++ [])) (sym (older-kept key))
+        (wider-held laws m c st.valid runs ended l.table key (shown_at key (w.shelf l.id)) (w.records l.id key ++ []) (all key ++ []) (among key) (stands-in key captured) captured))
 
     -- a key that lies elsewhere has no row, and nothing in the history
     kept-other : (key : List ℕ) → (LiesIn d.leaves l key → ⊥) → older_at from l key ≡ []
@@ -120,7 +138,7 @@ module _ (laws : Laws) (from : Source) (w : World) (st : Stands from.engine.now 
 
   -- ---- a leaf
 
-  own : (l : Leaf) → Contains d.leaves l → (key : List ℕ) → LiesIn d.leaves l key → IsCaptured l.table key (older_at from l key ++ [])
+  own : (l : Leaf) → Contains d.leaves l → (key : List ℕ) → LiesIn d.leaves l key → IsCaptured l l.table key (older_at from l key ++ [])
   own l there key lies = elim (st.leaves l there) [ inl f ↦ framed-own l f key lies | inr f ↦ kept-own l f key lies ]
 
   -- of a key that lies elsewhere it has nothing
@@ -136,8 +154,8 @@ module _ (laws : Laws) (from : Source) (w : World) (st : Stands from.engine.now 
 
   -- ---- all leaves
 
-  module _ (slots : List KeyHistory) (more : HasMore (OfPlaces from (length e.hub.tables.tables)) [] slots) where
-    added : (t : Table) (place : ℕ) → place < length e.hub.tables.tables → slice_get e.hub.tables.tables place ≡ Some t → (key : List ℕ) (l : Leaf) → Contains d.leaves l → l.table ≡ t.number → LiesIn d.leaves l key
+  module _ (count : ℕ) (slots : List KeyHistory) (more : HasMore (OfPlaces from count) [] slots) where
+    added : (t : Table) (place : ℕ) → place < count → slice_get e.hub.tables.tables place ≡ Some t → (key : List ℕ) (l : Leaf) → Contains d.leaves l → l.table ≡ t.number → LiesIn d.leaves l key
         → Added [] (older_at from l key) (versions_of t.number key slots)
     added t place within at key l there number home = record {
       fewer = λ v has. in_front (older_at from l key) [] v (elim (more.from t.number key v has) [
@@ -147,7 +165,7 @@ module _ (laws : Laws) (from : Source) (w : World) (st : Stands from.engine.now 
       old = λ v has. absurd has;
       new = λ v has. more.into t.number key v (place, within, (t, at, (refl, l, table_in t.number d.leaves l there number, has)));
     } where
-      only : (v : Version Change) → OfPlaces from (length e.hub.tables.tables) t.number key v → Member v (older_at from l key)
+      only : (v : Version Change) → OfPlaces from count t.number key v → Member v (older_at from l key)
       only v of =
           let n : Leaf = of.2.2.1 in
           let its = in_table of.2.0.number d.leaves n of.2.2.2 in
@@ -156,18 +174,15 @@ module _ (laws : Laws) (from : Source) (w : World) (st : Stands from.engine.now 
           let same : n ≡ l = same_Some n l (sym one ∙ (ap (λ (k : ℕ). leaf_under k key d.leaves) (sym number) ∙ home)) in
           subst (λ (x : Leaf). Member v (older_at from x key)) same of.2.2.3
 
-    of-table : (t : Table) (place : ℕ) → place < length e.hub.tables.tables → slice_get e.hub.tables.tables place ≡ Some t → (key : List ℕ) → IsCaptured t.number key (versions_of t.number key slots)
-    of-table t place within at key =
-        let first = st.begun place t at in
-        let home = keys-have d st.dir first.0 first.1 key in
-        let l : Leaf = home.0 in
-        let number : l.table ≡ t.number = home.1.table ∙ first.2 in
-        let in_it : LiesIn d.leaves l key = ap (λ (k : ℕ). leaf_under k key d.leaves) home.1.table ∙ has-under d st.dir first.0.table key l home.1 in
-        let captured : IsCaptured t.number key (older_at from l key ++ []) = subst (λ (n : ℕ). IsCaptured n key (older_at from l key ++ [])) number (own l home.1.there key in_it) in
-        set-held laws m st.valid none resolves t.number key (older_at from l key) (versions_of t.number key slots) (added t place within at key l home.1.there number in_it) captured
+    of-table : (t : Table) (place : ℕ) → place < count → slice_get e.hub.tables.tables place ≡ Some t → (l : Leaf) → Contains d.leaves l → l.table ≡ t.number → (key : List ℕ) → leaf_under t.number key d.leaves ≡ Some l → IsCaptured l t.number key (versions_of t.number key slots)
+    of-table t place within at l there number key under =
+        let in_it : LiesIn d.leaves l key = ap (λ (k : ℕ). leaf_under k key d.leaves) number ∙ under in
+        let captured : IsCaptured l t.number key (older_at from l key ++ []) = subst (λ (n : ℕ). IsCaptured l n key (older_at from l key ++ [])) number (own l there key in_it) in
+        set-held laws m c st.valid runs ended t.number key (cell l key) (older_at from l key) (versions_of t.number key slots) (added t place within at key l there number in_it) captured
 
-    pub gathers : HaveOlder m (λ table key. versions_of table key slots)
-    gathers t there key =
-        let turned : Member t (reverse e.hub.tables.tables) = subst (λ (known : List Table). Member t known) (sym st.made) there in
-        let at = member_at t e.hub.tables.tables (turned_member t e.hub.tables.tables turned) in
-        of-table t at.0 at.1 at.2 key
+    pub gathers : count ≡ length (tables_then m c) → from.snapshot.now.sight ≡ ended_sight e → HaveTaken w c e (λ table key. versions_of table key slots)
+    gathers all sight t there l has number key under =
+        let at = then_place m c e.hub.tables.tables st.valid runs st.made t there in
+        let low = at.1 in
+        subst (λ (s : Sight). CapturedIn m c t.number key (cell_in s (w.shelf l.id) (held_by e l) key) (Held (versions_of t.number key slots))) sight
+        (of-table t at.0 (omega (arith, low, all)) at.2 l has number key under)

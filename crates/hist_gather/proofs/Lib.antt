@@ -3,6 +3,7 @@ pub mod MoreKept
 pub mod AddedSlots
 pub mod Leaves
 pub mod Places
+pub mod Then
 pub mod KeyGathered
 pub mod Gathered
 pub mod Known

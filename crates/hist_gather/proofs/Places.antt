@@ -63,14 +63,6 @@ place_some from place t old new at more = more_as (OfLeaves from t.number (leave
 pub place_none : (from : Source) (place : ℕ) (slots : List KeyHistory) → None ≡ slice_get from.engine.now.hub.tables.tables place → HasMore (OfPlace from place) slots slots
 place_none from place slots none = none_more (OfPlace from place) slots (λ table key v of. let clash : None ≡ Some of.0 = none ∙ of.1 in absurd cc)
 
-pub has_at : (known : List Table) (place : ℕ) (t : Table) → slice_get known place ≡ Some t → has_table known t.number ≡ true
-has_at [] place t is = absurd cc
-has_at (u ∷ known) zero t is = let same : (u.number == t.number) ≡ true = eq-eqb u.number t.number (ap (λ (x : Table). x.number) (same_Some u t is)) in rw same refl
-has_at (u ∷ known) (suc place) t is = elim (cases_Bool (u.number == t.number)) [
-  | inl same ↦ rw same refl
-  | inr other ↦ rw other (has_at known place t is)
-]
-
 pub places_none : (from : Source) (slots : List KeyHistory) → HasMore (OfPlaces from 0) slots slots
 places_none from slots = none_more (OfPlaces from 0) slots (λ table key v of. let low = of.1 in absurd (omega (arith, low)))
 

@@ -1,5 +1,5 @@
 -- What is added to a history.
-use Rattle.std.specs.Prelude.{◌≡◌, ◌⊎◌, ℕ, true, List}
+use Rattle.std.specs.Prelude.{◌≡◌, ◌⊎◌, ◌<◌, ℕ, true, List, Some, slice_get}
 use Rattle.std.specs.List.{AllByRecursion}
 use Rattle.item.specs.declared.Change.{Change}
 use Rattle.stamp.specs.declared.Version.{Version}
@@ -23,3 +23,11 @@ OfMoved number moved table key v = (table ≡ number) × Member v (versions_in k
 -- each slot is of one of these tables
 abbrev pub AreKnown : List Table → List KeyHistory → Type 0
 AreKnown tables slots = AllByRecursion (λ (h : KeyHistory). has_table tables h.table ≡ true) slots
+
+-- the table at a place of a catalog is one of these, if there is one
+abbrev pub IsAmong : List Table → ℕ → List Table → Type 0
+IsAmong tables place known = (t : Table) → slice_get tables place ≡ Some t → has_table known t.number ≡ true
+
+-- so is each of its first ones
+abbrev pub AreAmong : List Table → ℕ → List Table → Type 0
+AreAmong tables count known = (place : ℕ) → place < count → IsAmong tables place known

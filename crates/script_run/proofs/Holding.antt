@@ -35,12 +35,13 @@ use Rattle.script_run.proofs.GoneBehind.{behind_actor, gone_behind, replies_free
 
 module _ {D : Type 0} (g : Ghosts D) where
   pub keeps_none : (store : Store) (disk : D) → CallKeeps g store store disk disk
-  keeps_none store disk = record { ready = λ ready. ready; ground = refl; frames = refl; looked = looked_none g disk; home = refl }
+  keeps_none store disk = record { ready = λ ready. ready; ground = refl; running = refl; frames = refl; looked = looked_none g disk; home = refl }
 
   pub keeps_then : (store middle store' : Store) (disk between disk' : D) → CallKeeps g store middle disk between → CallKeeps g middle store' between disk' → CallKeeps g store store' disk disk'
   keeps_then store middle store' disk between disk' a b = record {
     ready = λ ready. b.ready (a.ready ready);
     ground = kept_more store.ground middle.ground store'.ground a.ground b.ground;
+    running = b.running ∙ a.running;
     frames = b.frames ∙ a.frames;
     looked = looked_then g disk between disk' a.looked b.looked;
     home = b.home ∙ a.home;

@@ -195,7 +195,7 @@ rose-told told first before now met le same was rose (inr is) = rose-after first
 pub frames-held : {D : Type 0} (g : Ghosts D) (start disk : D) (store : Store) (frames : Frames) (w : World) (first : Completed) (made : List Installed) → IsHeld g start store disk w first made → IsHeld g start (record store { frames = frames }) disk w first made
 frames-held g start disk store frames w first made held = record {
   stands = held.stands;
-  idle = held.idle;
+  running = held.running;
   kept = held.kept;
   bare = held.bare;
   on = λ up. let x = held.on up in record { old = x.old; on = x.on; follows = x.follows; since = x.since; opens = x.opens; one = x.one };

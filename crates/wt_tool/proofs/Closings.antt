@@ -22,7 +22,7 @@ use Rattle.engine_world.specs.Systems.{checkpointed}
 use Rattle.engine_world.specs.Worlds.{World, Resting}
 use Rattle.engine.specs.Closes.{is_under_way, unfinished_in}
 use Rattle.ckpt_step.specs.declared.lives.Lone.{Lone}
-use Rattle.ckpt_step.specs.Takes.{IsOfCheckpoint}
+use Rattle.engine_store.specs.Finishes.{IsOfTaking}
 use Rattle.engine_store.specs.declared.store.Store.{Store}
 use Rattle.engine_store.specs.Answers.{CloseTakes, Installs, around_at}
 use Rattle.engine_store.specs.Devices.{Device, Installed, IsLater, device_of}
@@ -119,6 +119,6 @@ module _ {D : Type 0} (g : Ghosts D) (start_disk : D) (first : Completed) (w : W
   }
 
 -- a close tells of no damage
-pub close_sound : (r : Refusal) → IsOfCheckpoint r → NoDamage r
+pub close_sound : (r : Refusal) → IsOfTaking r → NoDamage r
 close_sound (Corrupt at want found) is = absurd is
 close_sound _ is = tt

@@ -21,6 +21,7 @@ use Rattle.engine_store.specs.Images.{EachReads}
 use Rattle.engine_store.specs.Keeping.{begun_with}
 use Rattle.engine_store.specs.Opened.{IsOpened}
 use Rattle.engine_store.proofs.NoLives.{none_on}
+use Rattle.engine_store.proofs.UnderWayStill.{none_runs}
 use Rattle.wt_tool.specs.Led.{Holds, LedBy}
 use Rattle.wt_tool.specs.Loads.{ClosesLoad}
 use Rattle.wt_tool.specs.Parts.{IsLeft, LeavesAt, silent_run}
@@ -45,7 +46,7 @@ module _ {D : Type 0} (g : Ghosts D) (disk : D) (s : Store) (on : IsOpened (g.se
         let opens : OpensAs (content_was on.old) (start content).completed = subst (λ (c : Content). OpensAs c (start content).completed) (sym same) (start_opens content each.1) in
         record {
           stands = subst (λ (c : Content). Stands s.engine (begun_with c on.shelf s)) same on.world;
-          idle = refl;
+          running = none_runs s.ground s.running (start content) on.running refl;
           kept = λ leaf key. refl;
           bare = on.bare;
           on = λ up. record {

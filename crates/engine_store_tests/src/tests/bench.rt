@@ -232,6 +232,15 @@ pub(super) fn take(rt: &impl Abort, alloc: Global, bench: &mut Bench) -> Result<
     bench.store.checkpoint(alloc, &mut bench.disk)
 }
 
+pub(super) fn start(alloc: Global, bench: &mut Bench) -> Result<(), Refusal> {
+    bench.store.start_checkpoint::<PlainDisk>(alloc)
+}
+
+pub(super) fn finish(rt: &impl Abort, alloc: Global, bench: &mut Bench) -> Result<(), Refusal> {
+    check_ready(rt, &bench.store);
+    bench.store.finish_checkpoint(alloc, &mut bench.disk)
+}
+
 pub(super) fn try_close(rt: &impl Abort, alloc: Global, bench: &mut Bench) -> Result<(), Refusal> {
     check_ready(rt, &bench.store);
     bench.store.close(alloc, &mut bench.disk)

@@ -1,4 +1,4 @@
-use Rattle.std.proofs.Common.{inl, inr, ◌≡◌, ◌∙◌, ◌≤◌, sym, ap, subst, arith, refl, ℕ, List, Option, Err, length}
+use Rattle.std.proofs.Common.{inl, inr, ◌≡◌, ◌∙◌, ◌≤◌, ◌+◌, ◌*◌, sym, ap, subst, arith, refl, ℕ, List, Option, Err, drop, length}
 use Rattle.disk_model.specs.Ranges.{length_put}
 use Rattle.disk_model.specs.Crash.{Keeps, LeavesOnly}
 use Rattle.disk_model.specs.declared.disk.Disk.{Ghosts}
@@ -12,13 +12,13 @@ use Rattle.block_mgr.specs.Cells.{done as done_cells}
 use Rattle.block_mgr.proofs.WriteLemmas.{taken_low}
 use Rattle.device_layout.specs.Slots.{slot_at}
 use Rattle.checkpoint_core.specs.Stands.{blocks_of, placed_at}
-use Rattle.checkpoint_core.specs.Finishes.{IsOld, KeepsAfter, ReadsThen}
+use Rattle.checkpoint_core.specs.Finishes.{IsOld, KeepsAfter, KeepsParts, ReadsThen}
 use Rattle.stored.specs.Stored.{Stored}
 use Rattle.wt_code.specs.declared.store_error.StoreError.{StoreError}
 use Rattle.wt_code.specs.declared.store_error.StoreError.TheVariants.{NoMemory, NoSpace, Read, Down}
 use Rattle.checkpoint_core.proofs.Recording.{keeps, block_length, block_some, wrote_old, written_now}
 use Rattle.checkpoint_core.proofs.Capturing.{freed_back, live_added}
-use Rattle.checkpoint_core.proofs.Holding.{in_use_same}
+use Rattle.checkpoint_core.proofs.Holding.{in_use_same, range_behind}
 use Rattle.checkpoint_core.proofs.Installing.{finished, not_finished, not_read, not_written}
 use Rattle.checkpoint_core.proofs.finishing.finish.Goals as goal
 
@@ -141,6 +141,28 @@ keeps_uninstalled g books before mid after old new NoMemory kept reads = subst (
 keeps_uninstalled g books before mid after old new NoSpace kept reads = subst (λ (l : List ℕ). Keeps (Has books.cells) (g.seen before) l) (sym reads.0) kept
 keeps_uninstalled g books before mid after old new Read kept reads = subst (λ (l : List ℕ). Keeps (Has books.cells) (g.seen before) l) (sym reads.0) kept
 keeps_uninstalled g books before mid after old new (Down fault) kept reads = tt
+
+-- a block in use is behind the slots
+parts_kept : (books : Books) (seen mid last : List ℕ) → Keeps (Has books.cells) seen mid → length last ≡ length mid → drop 8192 last ≡ drop 8192 mid → KeepsParts (Has books.cells) seen last
+parts_kept books seen mid last kept long behind = record {
+  part = λ at n has within. range_behind last mid at n behind (omega (arith, has.1)) ∙ kept.part at n has within;
+  no_shorter = omega (arith, long, kept.no_shorter);
+}
+
+pub returns-in-Ok-sync_and_install-clause-keeps : goal.returns-in-Ok-sync_and_install-clause-keeps
+returns-in-Ok-sync_and_install-clause-keeps g c h old new stands ready sequence next =
+    let D = g.D.Disk in
+    let seen = D.seen c.args.disk.now in
+    let books = c.args.blocks.now in
+    let a = c.in-Ok.addr in
+    let wrote = c.in-Ok.ensures in
+    let capacity = D.capacity c.args.disk.now in
+    let low : a.offset ≤ length seen = omega (arith, (c.requires.ready h).1, taken_low books.space c.write.new.self.space a.size capacity a.offset wrote.taken) in
+    let made = placed_at new a in
+    let slot_is : made.slot ≡ c.new.result = named_is _ _ _ _ sequence c.new.ensures in
+    let done = written_now seen (D.seen c.write.new.disk) c.args.image.items (D.may_leave c.args.disk.now) (D.may_leave c.write.new.disk) books c.write.new.self.space capacity old new a stands ready wrote.units.0 c.requires.some wrote.address wrote.taken low (wrote.written h) wrote.images in
+    let reads = c.in-Ok-sync_and_install.ensures.reads (c.write.ensures.disk.same ∙ h) old made done slot_is (next c.new.result (ap (λ (s : Slot). s.sequence) c.new.ensures)) in
+    parts_kept books seen (D.seen c.write.new.disk) (D.seen c.sync_and_install.new.disk) (keeps seen (D.seen c.write.new.disk) c.args.image.items books c.write.new.self.space capacity new a ready wrote.units.0 wrote.address wrote.taken low (wrote.written h)) reads.1 reads.2
 
 pub returns-in-Err-sync_and_install-clause-keeps : goal.returns-in-Err-sync_and_install-clause-keeps
 returns-in-Err-sync_and_install-clause-keeps g c h old new stands ready sequence next =

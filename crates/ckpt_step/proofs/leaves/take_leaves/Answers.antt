@@ -20,9 +20,9 @@ loop-leaf-init g c = record {
   ready = c.requires.ready;
   front = [];
   all = sym (c.leaves_of-leaves.ensures ∙ ap (λ (d : Directory). leaves_of c.args.table d.leaves) c.leaves.ensures.are);
-  drafts = λ h w stands none sees i t at number old first may has follows device.
-      subst (λ (es : List Entry). Drafting g.D.Disk old first c.args.engine.now.hub.dir.leaves (known_in c.args.was.parts.now) w t.number c.args.blocks.now c.args.blocks.now c.args.taken.now.parts.items c.args.taken.now.parts.items c.args.taken.now.captured.items c.args.taken.now.captured.items c.args.disk.now c.args.disk.now [] es) (sym c.requires.empty)
-      (drafting_none g.D.Disk old first c.args.engine.now.hub.dir.leaves (known_in c.args.was.parts.now) w t.number c.args.blocks.now c.args.taken.now.parts.items c.args.taken.now.captured.items c.args.disk.now (λ x left. g.met.D.Disk.only_now _ x left) (leaves_at c.args.was.trees.now i) may.over (c.requires.ready h));
+  drafts = λ h n moment i t at number stood old first may has follows device.
+      subst (λ (es : List Entry). Drafting g.D.Disk old first c.args.engine.now.hub.dir.leaves (known_in c.args.was.parts.now) n t.number c.args.blocks.now c.args.blocks.now c.args.taken.now.parts.items c.args.taken.now.parts.items c.args.taken.now.captured.items c.args.taken.now.captured.items c.args.disk.now c.args.disk.now [] es) (sym c.requires.empty)
+      (drafting_none g.D.Disk old first c.args.engine.now.hub.dir.leaves (known_in c.args.was.parts.now) n t.number c.args.blocks.now c.args.taken.now.parts.items c.args.taken.now.captured.items c.args.disk.now (λ x left. g.met.D.Disk.only_now _ x left) (leaves_at c.args.was.trees.now i) may.over (c.requires.ready h));
 }
 
 pub loop-leaf-smaller : goal.loop-leaf-smaller
@@ -45,22 +45,22 @@ loop-leaf-preserved g c =
       ready = λ h. c.in_ok-take_leaf.ensures.ready (sym c.take_leaf.ensures.disk.same ∙ h);
       front = inv.front ++ leaf ∷ [];
       all = split ∙ sym (append_assoc inv.front (leaf ∷ []) rest);
-      drafts = λ h w stands none sees i t at number old first may has follows device.
-          c.in_ok-take_leaf.ensures.drafts (inv.disk.same ∙ h) w stands none sees i t at ((leaf_next c.args.table leaves inv.front leaf rest split).1 ∙ sym number) old first c.args.blocks.now c.args.disk.now c.args.taken.now.parts.items c.args.taken.now.captured.items inv.front rest
-          may has follows device (ap (λ (n : ℕ). leaves_of n leaves) number ∙ split) (inv.drafts h w stands none sees i t at number old first may has follows device);
+      drafts = λ h n moment i t at number stood old first may has follows device.
+          c.in_ok-take_leaf.ensures.drafts (inv.disk.same ∙ h) n moment i t at ((leaf_next c.args.table leaves inv.front leaf rest split).1 ∙ sym number) stood old first c.args.blocks.now c.args.disk.now c.args.taken.now.parts.items c.args.taken.now.captured.items inv.front rest
+          may has follows device (ap (λ (k : ℕ). leaves_of k leaves) number ∙ split) (inv.drafts h n moment i t at number stood old first may has follows device);
     }
 
 pub returns-clause-drafts : goal.returns-clause-drafts
-returns-clause-drafts g c h w stands none sees i t at number old first may has follows device =
+returns-clause-drafts g c h n moment i t at number stood old first may has follows device =
     let inv = c.loop-leaf.invariant in
     let leaves = c.args.engine.now.hub.dir.leaves in
     let had = known_in c.args.was.parts.now in
     let whole : leaves_of c.args.table leaves ≡ inv.front = inv.all ∙ (ap (λ (l : List Leaf). inv.front ++ l) c.in_default.ensures.ends ∙ append-nil inv.front) in
-    subst (λ (m : List Leaf). Drafting g.D.Disk old first leaves had w c.args.table c.args.blocks.now c.loop-leaf.blocks c.args.taken.now.parts.items c.loop-leaf.taken.parts.items c.args.taken.now.captured.items c.loop-leaf.taken.captured.items c.args.disk.now c.loop-leaf.disk m c.loop-leaf.draft) (sym whole)
-    (subst (λ (n : ℕ). Drafting g.D.Disk old first leaves had w n c.args.blocks.now c.loop-leaf.blocks c.args.taken.now.parts.items c.loop-leaf.taken.parts.items c.args.taken.now.captured.items c.loop-leaf.taken.captured.items c.args.disk.now c.loop-leaf.disk inv.front c.loop-leaf.draft) number (inv.drafts h w stands none sees i t at number old first may has follows device))
+    subst (λ (m : List Leaf). Drafting g.D.Disk old first leaves had n c.args.table c.args.blocks.now c.loop-leaf.blocks c.args.taken.now.parts.items c.loop-leaf.taken.parts.items c.args.taken.now.captured.items c.loop-leaf.taken.captured.items c.args.disk.now c.loop-leaf.disk m c.loop-leaf.draft) (sym whole)
+    (subst (λ (k : ℕ). Drafting g.D.Disk old first leaves had n k c.args.blocks.now c.loop-leaf.blocks c.args.taken.now.parts.items c.loop-leaf.taken.parts.items c.args.taken.now.captured.items c.loop-leaf.taken.captured.items c.args.disk.now c.loop-leaf.disk inv.front c.loop-leaf.draft) number (inv.drafts h n moment i t at number stood old first may has follows device))
 
 pub returns-in_err-take_leaf-clause-drafts : goal.returns-in_err-take_leaf-clause-drafts
-returns-in_err-take_leaf-clause-drafts g c h w stands none sees i t at number old first may has follows device =
+returns-in_err-take_leaf-clause-drafts g c h n moment i t at number stood old first may has follows device =
     let inv = c.loop-leaf.invariant in
     let leaves = c.args.engine.now.hub.dir.leaves in
     let had = known_in c.args.was.parts.now in
@@ -68,6 +68,6 @@ returns-in_err-take_leaf-clause-drafts g c h w stands none sees i t at number ol
     let rest = c.next_leaf.new.self in
     let split : leaves_of c.args.table leaves ≡ inv.front ++ leaf ∷ rest = inv.all ∙ ap (λ (l : List Leaf). inv.front ++ l) c.in-Some.ensures.after in
     let p = err_from_is_err_and c.from_residual.result c.from_residual.ensures.1 in
-    rw (p.1, p.2) (subst (λ (n : ℕ). DraftStopped g.D.Disk old first leaves had w n c.args.blocks.now c.take_leaf.new.blocks c.args.taken.now.parts.items c.take_leaf.new.taken.parts.items c.args.taken.now.captured.items c.take_leaf.new.taken.captured.items c.args.disk.now c.take_leaf.new.disk c.in_err-take_leaf.field-0.0) number
-    (c.in_err-take_leaf.ensures.drafts (inv.disk.same ∙ h) w stands none sees i t at ((leaf_next c.args.table leaves inv.front leaf rest split).1 ∙ sym number) old first c.args.blocks.now c.args.disk.now c.args.taken.now.parts.items c.args.taken.now.captured.items inv.front rest
-    may has follows device (ap (λ (n : ℕ). leaves_of n leaves) number ∙ split) (inv.drafts h w stands none sees i t at number old first may has follows device)))
+    rw (p.1, p.2) (subst (λ (k : ℕ). DraftStopped g.D.Disk old first leaves had n k c.args.blocks.now c.take_leaf.new.blocks c.args.taken.now.parts.items c.take_leaf.new.taken.parts.items c.args.taken.now.captured.items c.take_leaf.new.taken.captured.items c.args.disk.now c.take_leaf.new.disk c.in_err-take_leaf.field-0.0) number
+    (c.in_err-take_leaf.ensures.drafts (inv.disk.same ∙ h) n moment i t at ((leaf_next c.args.table leaves inv.front leaf rest split).1 ∙ sym number) stood old first c.args.blocks.now c.args.disk.now c.args.taken.now.parts.items c.args.taken.now.captured.items inv.front rest
+    may has follows device (ap (λ (k : ℕ). leaves_of k leaves) number ∙ split) (inv.drafts h n moment i t at number stood old first may has follows device)))

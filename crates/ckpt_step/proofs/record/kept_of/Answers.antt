@@ -1,5 +1,5 @@
-use Rattle.std.proofs.Common.{◌<◌, ◌^◌, ℕ, List, ap, rules, sym, subst, length, arith}
-use Rattle.snapshot.specs.Sight.{Sight, sight_of}
+use Rattle.std.proofs.Common.{◌<◌, ◌^◌, ℕ, List, rules, sym, subst, arith}
+use Rattle.snapshot.specs.Sight.{sight_of}
 use Rattle.stored.specs.Records.{SnapshotFits}
 use Rattle.ckpt_step.proofs.RecordsFit.{snapshot_fits}
 use Rattle.ckpt_step.proofs.record.kept_of.Goals as goal
@@ -9,6 +9,6 @@ max_fits c = search rules
 
 pub returns-clause-fits : goal.returns-clause-fits
 returns-clause-fits c =
-    let few = ap (λ (s : Sight). length s.list) c.view-view.ensures.sight in
+    let few = c.if-view-gt-SESSIONS_MAX.false in
     subst (λ (l : List ℕ). SnapshotFits (record { min = c.view-view.result.min; max = c.view-view.result.max; ids = l })) (sym c.in_ok-from_slice.ensures.items)
-    (snapshot_fits (sight_of c.view-view.result) c.view-view.ensures.lent (max_fits c) (omega (arith, few, c.requires.few)))
+    (snapshot_fits (sight_of c.view-view.result) c.view-view.ensures.lent (max_fits c) (omega (arith, few)))

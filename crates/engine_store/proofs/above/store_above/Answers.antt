@@ -115,12 +115,12 @@ returns-in_ok-parts-in-Ok-clause-found g c = λ honest surveyed content reads la
     let now = c.in-Ok.ensures.stands honest (first_world own on_shelf (λ leaf key. []) e) first kept in
     let unmarked = λ (l : Leaf) (there : Contains c.bring_marked.new.engine.hub.dir.leaves l) (none : l.frame ≡ None). subst (λ (n : Marks). IsUnmarked n l) c.marks_of-marks.ensures (c.in-Ok.ensures.unmarked l there none) in
     let keep = subst (λ (n : Marks). KeepMarked c.bring_marked.new.engine.hub.tables.tables c.bring_marked.new.engine.hub.dir.leaves n (known_in c.in_ok-parts-in-Ok.parts)) c.marks_of-marks.ensures c.in_ok-parts-in-Ok.ensures in
-    let s : Store = record { engine = c.bring_marked.new.engine; ground = record { place = c.args.place; number = c.number_of-number.result; trees = c.in_ok-trees-2.trees; parts = c.in_ok-parts-in-Ok.parts; lives = c.new.result; history = a.history.addrs; kept = c.bring_marked.new.kept; floor = no_name }; frames = c.args.frames; clock = c.new-in-Ok.result } in
+    let s : Store = record { engine = c.bring_marked.new.engine; ground = record { place = c.args.place; number = c.number_of-number.result; trees = c.in_ok-trees-2.trees; parts = c.in_ok-parts-in-Ok.parts; lives = c.new.result; history = a.history.addrs; kept = c.bring_marked.new.kept; floor = no_name }; running = None; frames = c.args.frames; clock = c.new-in-Ok.result } in
     let trees_are : s.ground.trees.items ≡ places_in a.record.tables ps = c.in_ok-trees-2.ensures ∙ ap (λ (l : List TableRoot). places_in l ps) c.tables_of-2.ensures in
     let yes : c.has_numbers.result ≡ true = cc in
     let run : a.record.run < last_number = omega (arith, c.run_of.ensures, c.if-run_of-ge-NUMBER_MAX.false) in
     found_above a c.requires.is_record both with e unread s c.bring_marked.ensures.goes ps over trees_are c.number_of-number.ensures bytes c.args.place of recorded lists keeps others c.leaves_have_cells.ensures c.rows_open.ensures.whole is_regular is_layered now unmarked keep
-    refl refl c.new.ensures refl run (c.has_numbers.ensures.yes yes)
+    refl refl refl c.new.ensures refl run (c.has_numbers.ensures.yes yes)
 
 pub returns-in_ok-parts-in-Ok-clause-spoils : goal.returns-in_ok-parts-in-Ok-clause-spoils
 returns-in_ok-parts-in-Ok-clause-spoils g c = λ honest surveyed id at want found spoils.
@@ -155,7 +155,7 @@ returns-in_ok-parts-in-Ok-clause-ready g c =
     let over : AreOver ps a.record.tables a.uppers.items = subst (λ (l : List TableRoot). AreOver ps l a.uppers.items) c.tables_of.ensures (subst (λ (l : List Upper). AreOver ps c.tables_of.result.now l) c.deref.ensures.value c.in_ok-trees.ensures) in
     let e = c.in_ok-engine.engine in
     let unread : IsUnread (marks_of a.record) both e = subst (λ (n : Marks). IsUnread n both e) c.marks_of-marks.ensures c.in_ok-engine.ensures.unread in
-    let s : Store = record { engine = c.bring_marked.new.engine; ground = record { place = c.args.place; number = c.number_of-number.result; trees = c.in_ok-trees-2.trees; parts = c.in_ok-parts-in-Ok.parts; lives = c.new.result; history = a.history.addrs; kept = c.bring_marked.new.kept; floor = no_name }; frames = c.args.frames; clock = c.new-in-Ok.result } in
+    let s : Store = record { engine = c.bring_marked.new.engine; ground = record { place = c.args.place; number = c.number_of-number.result; trees = c.in_ok-trees-2.trees; parts = c.in_ok-parts-in-Ok.parts; lives = c.new.result; history = a.history.addrs; kept = c.bring_marked.new.kept; floor = no_name }; running = None; frames = c.args.frames; clock = c.new-in-Ok.result } in
     let trees_are : s.ground.trees.items ≡ places_in a.record.tables ps = c.in_ok-trees-2.ensures ∙ ap (λ (l : List TableRoot). places_in l ps) c.tables_of-2.ensures in
     ready_above a c.requires.is_record both with e unread s c.bring_marked.ensures.goes ps over trees_are c.number_of-number.ensures
 

@@ -6,7 +6,7 @@ use Rattle.kv_model.specs.History.{Table, has_table}
 use Rattle.tree_dir.specs.Leaves.{leaves_of}
 use Rattle.hist_gather.specs.Added.{HasMore}
 use Rattle.hist_gather.specs.Sources.{OfLeaves}
-use Rattle.hist_gather.proofs.Places.{has_at, place_none, place_some}
+use Rattle.hist_gather.proofs.Places.{place_none, place_some}
 use Rattle.hist_gather.proofs.gathering.add_table.Goals as goal
 
 pub returns-in-None-clause-more : goal.returns-in-None-clause-more
@@ -26,6 +26,6 @@ pub returns-in-Some-clause-known : goal.returns-in-Some-clause-known
 returns-in-Some-clause-known c =
     let tables = c.args.from.engine.now.hub.tables.tables in
     on_ok_weaker c.add_leaves.result
-    (λ known. known tables (subst (λ (t : Table). has_table tables t.number ≡ true) (sym c.table-in-Some.view_is)
-    (has_at tables c.args.place c.in-Some.table.now (sym (c.in-Some.ensures ∙ ap (λ (k : Known). slice_get k.tables c.args.place) c.tables.ensures.are)))))
+    (λ stays known among. stays known (subst (λ (t : Table). has_table known t.number ≡ true) (sym c.table-in-Some.view_is)
+    (among c.in-Some.table.now (sym (c.in-Some.ensures ∙ ap (λ (k : Known). slice_get k.tables c.args.place) c.tables.ensures.are)))))
     c.add_leaves.ensures.known

@@ -1,4 +1,4 @@
-use Rattle.std.proofs.Common.{◌∙◌, Err, None, ap, length, sym, refl, arith}
+use Rattle.std.proofs.Common.{◌∙◌, Err, None, ap, inl, length, sym, refl, arith}
 use Rattle.catalog.specs.Known.{Known}
 use Rattle.txn_table.specs.Tabled.{Table as Txns}
 use Rattle.ckpt_step.proofs.Staying.{no_fewer}
@@ -8,6 +8,8 @@ use Rattle.engine_store.proofs.AsHeld.{shuts_as}
 use Rattle.engine_store.proofs.Closings.{checkpoint_rolled, closes_last, may_roll}
 use Rattle.engine_store.proofs.KeptAnswers.{own_taken, own_then, told_own}
 use Rattle.engine_store.proofs.Shutting.{is_rolled, shuts_by, shuts_refused}
+use Rattle.engine_store.proofs.BarredNow.{barred_close, barred_told}
+use Rattle.engine_store.proofs.UnderWayStill.{runs_none}
 use Rattle.engine_store.proofs.store.Store.close.Goals as goal
 
 pub checkpoint-requires-clause-run : goal.checkpoint-requires-clause-run
@@ -17,11 +19,11 @@ pub checkpoint-requires-clause-trees : goal.checkpoint-requires-clause-trees
 checkpoint-requires-clause-trees g c = omega (arith, no_fewer c.args.self.now.engine.hub.tables.tables c.roll_back_all.new.self.hub.tables.tables c.roll_back_all.ensures.goes.tables, c.requires.ready.trees)
 
 pub returns-clause-closes : goal.returns-clause-closes
-returns-clause-closes g c = λ h w st free keeps old on follows device.
+returns-clause-closes g c = λ h w st idle free keeps old on follows device.
     let D = g.D.Disk in
     let before = c.args.self.now in
     let middle = c.roll_back_all.new.self in
-    let may = may_roll before.engine c.may_close.result c.in-Ok.field-0 c.may_close.ensures.told c.in-Ok.is w st free in
+    let may = may_roll before.engine c.may_close.result c.in-Ok-may_close.field-0 c.may_close.ensures.told c.in-Ok-may_close.is w st free in
     let stands = c.roll_back_all.ensures.rolled_back w st may in
     let r = is_rolled (D.seen c.args.disk.now) (D.may_leave c.args.disk.now) old w before.ground before.engine middle c.roll_back_all.ensures.goes st stands on follows device in
     closes_last D old w before (record c.args.self.now { engine = c.checkpoint.new.engine; ground = c.checkpoint.new.ground }) c.args.disk.now c.checkpoint.new.disk c.checkpoint.result
@@ -38,13 +40,13 @@ returns-clause-shuts g c = λ h first_disk w first made held.
     let there = with_kept c.args.self.now.ground.kept w in
     let before = c.args.self.now in
     let middle = c.roll_back_all.new.self in
-    let may = may_roll before.engine c.may_close.result c.in-Ok.field-0 c.may_close.ensures.told c.in-Ok.is there held.stands held.idle in
+    let may = may_roll before.engine c.may_close.result c.in-Ok-may_close.field-0 c.may_close.ensures.told c.in-Ok-may_close.is there held.stands (runs_none before.ground before.running w.machine c.in-Ok.ensures.free.1 held.running) in
     let stands = c.roll_back_all.ensures.rolled_back there held.stands may in
     shuts_as D first_disk w there.records first made before (record c.args.self.now { engine = c.checkpoint.new.engine; ground = c.checkpoint.new.ground }) c.args.disk.now c.checkpoint.new.disk c.checkpoint.result
-    (shuts_by D first_disk c.args.disk.now (g.met.D.Disk.reads_an_image c.args.disk.now h) before there first made held may middle stands c.roll_back_all.ensures.goes
-    c.checkpoint.new.disk (λ later d left. g.met.D.Disk.counts_now _ _ d later left) (λ d left. g.met.D.Disk.only_now _ d left) c.checkpoint.ensures.disk.later c.checkpoint.ensures.disk.room c.checkpoints_open.ensures.read c.downs_go.ensures
-    (record c.args.self.now { engine = c.checkpoint.new.engine; ground = c.checkpoint.new.ground }) c.checkpoint.result c.checkpoint.ensures.lives c.checkpoint.ensures.history
-    (λ old on follows device. c.checkpoint.ensures.takes h (rolled there) stands (checkpoint_rolled w.machine ∙ held.idle) held.kept old on follows device))
+    (shuts_by D first_disk c.args.disk.now (g.met.D.Disk.reads_an_image c.args.disk.now h) before there first made held c.in-Ok.ensures.free.1 may middle stands c.roll_back_all.ensures.goes
+    c.checkpoint.new.disk (λ later d left. g.met.D.Disk.counts_now _ _ d later left) (λ d left. g.met.D.Disk.only_now _ d left) c.checkpoint.ensures.disk.later c.checkpoint.ensures.disk.room c.finishes_open.ensures.read c.downs_go.ensures
+    (record c.args.self.now { engine = c.checkpoint.new.engine; ground = c.checkpoint.new.ground }) c.checkpoint.result c.in-Ok.ensures.free.1 c.checkpoint.ensures.lives c.checkpoint.ensures.history
+    (λ old on follows device. c.checkpoint.ensures.takes h (rolled there) stands (checkpoint_rolled w.machine ∙ (runs_none before.ground before.running w.machine c.in-Ok.ensures.free.1 held.running)) held.kept old on follows device))
 
 pub returns-clause-told : goal.returns-clause-told
 returns-clause-told g c = λ start le.
@@ -60,9 +62,22 @@ returns-clause-ready g c = record {
   low = c.checkpoint.ensures.low;
 }
 
+pub returns-in-Err-may_close-clause-shuts : goal.returns-in-Err-may_close-clause-shuts
+returns-in-Err-may_close-clause-shuts g c = λ h first_disk w first made held.
+    let before = c.args.self.now in
+    shuts_as g.D.Disk first_disk w (with_kept before.ground.kept w).records first made before before c.args.disk.now c.args.disk.now (Err c.in-Err-may_close.refusal)
+    (shuts_refused g.D.Disk first_disk c.args.disk.now (g.met.D.Disk.reads_an_image c.args.disk.now h) before (with_kept before.ground.kept w) first made held c.args.disk.now before c.in-Err-may_close.refusal
+    (sym (c.may_close.ensures.told (with_kept before.ground.kept w) held.stands (runs_none before.ground before.running w.machine c.in-Ok.ensures.free.1 held.running)) ∙ c.in-Err-may_close.is) refl refl)
+
+pub returns-in-Err-clause-closes : goal.returns-in-Err-clause-closes
+returns-in-Err-clause-closes g c = λ h w st idle free keeps old on follows device.
+    inl (record { why = barred_told c.args.self.now w c.in-Err.refusal st idle c.in-Err.ensures.barred; store = refl; disk = refl })
+
 pub returns-in-Err-clause-shuts : goal.returns-in-Err-clause-shuts
 returns-in-Err-clause-shuts g c = λ h first_disk w first made held.
     let before = c.args.self.now in
-    shuts_as g.D.Disk first_disk w (with_kept before.ground.kept w).records first made before before c.args.disk.now c.args.disk.now (Err c.in-Err.refusal)
-    (shuts_refused g.D.Disk first_disk c.args.disk.now (g.met.D.Disk.reads_an_image c.args.disk.now h) before (with_kept before.ground.kept w) first made held c.args.disk.now before c.in-Err.refusal
-    (sym (c.may_close.ensures.told (with_kept before.ground.kept w) held.stands held.idle) ∙ c.in-Err.is) refl refl)
+    let there = with_kept before.ground.kept w in
+    let image = g.met.D.Disk.reads_an_image c.args.disk.now h in
+    shuts_as g.D.Disk first_disk w there.records first made before before c.args.disk.now c.args.disk.now (Err c.in-Err.refusal)
+    (shuts_refused g.D.Disk first_disk c.args.disk.now image before there first made held c.args.disk.now before c.in-Err.refusal
+    (barred_close g.D.Disk first_disk c.args.disk.now image before there first made held c.in-Err.refusal c.in-Err.ensures.barred) refl refl)

@@ -20,6 +20,7 @@ loop-called-preserved g c =
       waits = c.go_on-called.ensures.waits;
       goes = c.go_on-called.ensures.goes;
       ground = c.go_on-called.ensures.ground;
+      running = c.go_on-called.ensures.running;
       frames = c.go_on-called.ensures.frames;
       sessions = c.go_on-called.ensures.sessions;
       looked = c.go_on-called.ensures.looked;

@@ -17,7 +17,7 @@ returns-in-None-clause-evicts g c = λ h start w first made held.
     let out = out_of c.as_bytes-in-Ok.result.now c.args.table.now c.as_bytes-in-Ok-2.result.now c.args.key.now c.as_bytes-in-Ok.ensures c.as_bytes-in-Ok-2.ensures c.args.self.now.engine w.machine (c.in-None.ensures.none refl v held.stands) in
     is_out g.D.Disk start w first made c.args.number c.args.table.now c.args.key.now c.args.self.now c.args.self.now c.args.disk.now c.args.disk.now
     (look_of c.as_bytes.result.now c.args.table.now c.as_bytes-2.result.now c.args.key.now c.as_bytes.ensures c.as_bytes-2.ensures (slice_index_or w.systems c.args.number None) w.machine (c.in-Ok.ensures.goes v held.stands))
-    (still_up g.D.Disk c.args.self.now c.args.self.now refl refl refl start c.args.disk.now w first made held) out (λ id leaf. inl (out id leaf))
+    (still_up g.D.Disk c.args.self.now c.args.self.now refl refl refl refl start c.args.disk.now w first made held) out (λ id leaf. inl (out id leaf))
 
 pub returns-in-Some-clause-evicts : goal.returns-in-Some-clause-evicts
 returns-in-Some-clause-evicts g c = λ h start w first made held.

@@ -6,10 +6,10 @@ pub returns-clause-room : goal.returns-clause-room
 returns-clause-room g c =
     let some = c.evict_some.new.self in
     let disk = c.evict_some.new.disk in
-    makes_more g.D.Disk c.args.self.now some _ c.args.disk.now disk disk c.evict_some.ensures.alike.disk.same c.evict_some.ensures.room (still_room g.D.Disk some _ refl refl refl disk)
+    makes_more g.D.Disk c.args.self.now some _ c.args.disk.now disk disk c.evict_some.ensures.alike.disk.same c.evict_some.ensures.room (still_room g.D.Disk some _ refl refl refl refl disk)
 
 pub returns-clause-alike : goal.returns-clause-alike
 returns-clause-alike g c =
     let some = c.evict_some.new.self in
     let disk = c.evict_some.new.disk in
-    alike_more g.D.Disk c.args.self.now some _ c.args.disk.now disk disk c.evict_some.ensures.alike (still_alike g.D.Disk some _ refl refl refl disk)
+    alike_more g.D.Disk c.args.self.now some _ c.args.disk.now disk disk c.evict_some.ensures.alike (still_alike g.D.Disk some _ refl refl refl refl disk)

@@ -22,6 +22,7 @@ ended g c = record {
   goes = c.resume-called.ensures.goes;
   on = c.end.ensures.goes;
   ground = c.end.ensures.ground;
+  running = c.end.ensures.running;
   frames = c.end.ensures.frames;
   looked = c.end.ensures.looked;
   home = c.end.ensures.home;

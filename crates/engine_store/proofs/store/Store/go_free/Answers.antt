@@ -30,6 +30,7 @@ goes g c = record {
       led_step (CauseSince g.D.Disk c.args.disk.now c.args.disk.now c.args.self.now.frames w) c.args.self.now c.go_once.new.self c.args.self.now.ground.kept c.args.self.now.ground.kept w (made g c) c.go_once.result reached.stands c.actors.ensures.built c.requires (c.go_once.ensures.step (with_kept c.args.self.now.ground.kept w) reached.stands);
   hub = c.go_once.ensures.goes;
   ground = refl;
+  running = refl;
   frames = refl;
   looked = looked_none g.D.Disk c.args.disk.now;
   home = refl;
@@ -67,6 +68,7 @@ comes g c = record {
       (c.go_once-in-Ok.ensures.step (with_kept c.let_in.new.self.ground.kept w) (c.in-Ok.ensures.steps h w w reached));
   hub = hub g c;
   ground = c.let_in.ensures.ground;
+  running = c.let_in.ensures.running;
   frames = c.let_in.ensures.frames;
   looked = c.let_in.ensures.looked;
   home = c.let_in.ensures.home;
@@ -114,6 +116,7 @@ returns-in-Err-clause-stepped g c = λ evicting.
           (c.args.session, refl, out.0, out.1, out.2, out.3);
       hub = c.let_in.ensures.goes;
       ground = c.let_in.ensures.ground;
+      running = c.let_in.ensures.running;
       frames = c.let_in.ensures.frames;
       looked = c.let_in.ensures.looked;
       home = c.let_in.ensures.home;
@@ -134,6 +137,7 @@ returns-in-Err-clause-keeps g c = step_keeps g.D.Disk c.args.self.now c.let_in.n
       (c.args.session, refl, out.0, out.1, out.2, out.3);
   hub = c.let_in.ensures.goes;
   ground = c.let_in.ensures.ground;
+  running = c.let_in.ensures.running;
   frames = c.let_in.ensures.frames;
   looked = c.let_in.ensures.looked;
   home = c.let_in.ensures.home;

@@ -13,6 +13,7 @@ ended g c = record {
   goes = c.put-called.ensures.goes;
   on = c.end.ensures.goes;
   ground = c.end.ensures.ground;
+  running = c.end.ensures.running;
   frames = c.end.ensures.frames;
   looked = c.end.ensures.looked;
   home = c.end.ensures.home;

@@ -3,6 +3,12 @@ use Rattle.engine_store.proofs.WritingOut.{joined, none_alike, none_wrote, then_
 use Rattle.engine_store.proofs.store.Store.write_leaves.Goals as goal
 use Rattle.engine_store.proofs.store.Store.write_leaves.Goals.{in-Some+in-Ok, in_default}
 
+pub returns-then-is_some-clause-writes : goal.returns-then-is_some-clause-writes
+returns-then-is_some-clause-writes g c = none_wrote g.D.Disk c.args.self.now c.args.disk.now
+
+pub returns-then-is_some-clause-alike : goal.returns-then-is_some-clause-alike
+returns-then-is_some-clause-alike g c = none_alike g.D.Disk c.args.self.now c.args.disk.now
+
 pub returns-then-not-is_idle-clause-writes : goal.returns-then-not-is_idle-clause-writes
 returns-then-not-is_idle-clause-writes g c = none_wrote g.D.Disk c.args.self.now c.args.disk.now
 
