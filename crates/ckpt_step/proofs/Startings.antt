@@ -1,11 +1,11 @@
 -- A checkpoint that starts: what runs then.
-use Rattle.std.specs.Prelude.{◌≡◌, ◌⊎◌, ◌<◌, ◌≤◌, ◌-◌, ◌^◌, ◌==◌, ℕ, true, false, nat_lt, length, MatchOption, Ok, Option, None, Some}
+use Rattle.std.specs.Prelude.{◌≡◌, ◌⊎◌, ◌<◌, ◌≤◌, ◌-◌, ◌^◌, ◌==◌, ℕ, true, false, nat_lt, MatchOption, Ok, Option, None, Some}
 use Rattle.std.proofs.Common.{inl, inr, sym, ◌∙◌, ap, subst, refl, arith}
 use Rattle.std.proofs.Math.Bool.{and-false}
 use Rattle.std.proofs.lemmas.Bool.{cases_eq, le-ltb}
 use Rattle.kv_model.specs.Machine.{Checkpoint, CheckpointStart, Machine, Transaction, after, name_of, transaction_of}
-use Rattle.snapshot.specs.Matters.{AreUnended, SeesCommitted}
-use Rattle.snapshot.specs.Sight.{IsSight, Sight, SnapshotValue, is_listed, is_seen, least_or, sight_at}
+use Rattle.snapshot.specs.Matters.{AreUnended}
+use Rattle.snapshot.specs.Sight.{IsSight, Sight, is_listed, is_seen, least_or, sight_at}
 use Rattle.stamp.specs.declared.Name.{Name}
 use Rattle.txn_table.specs.Tabled.{unended}
 use Rattle.engine_world.specs.Stands.{Engine, Stands}
@@ -21,19 +21,6 @@ use Rattle.ckpt_step.proofs.CapturesBefore.{above_now}
 use Rattle.ckpt_step.proofs.Following.{from_low, respects_now}
 use Rattle.ckpt_step.proofs.Members.{some_same}
 use Rattle.ckpt_step.proofs.WholeTaken.{started_goes}
-
--- that it runs is nothing to a snapshot
-sees_started : (m : Machine) (n : ℕ) (s : Sight) → SeesCommitted m n s → SeesCommitted (after m CheckpointStart) n s
-sees_started m n s sees = record {
-  run = sees.run;
-  order = sees.order;
-  drawn = sees.drawn;
-  within = sees.within;
-  sees = λ x matters. sees.sees x (elim matters [
-    | inl is ↦ inl is
-    | inr live ↦ inr (record { session = live.session; transaction = live.transaction; there = live.there; drawn = live.drawn; name = live.name; counts = live.counts })
-  ]);
-}
 
 -- a name of its run that is listed, from the least id on
 hidden : (s : Sight) (x : Name) → x.run ≡ s.run → s.min ≤ x.id → is_listed s.list x.id ≡ true → is_seen s x ≡ false
@@ -53,43 +40,33 @@ sees_none m s run is ids session = each (transaction_of m session) refl
           inr (hidden s (name_of m t) (sym run) (from_low s.min s.list s.max t.id is.ascending listed) listed))
     ]
 
-module _ (e : Engine) (g : Ground) (w : World) (running : RunningCheckpoint) (snapshot : SnapshotValue) (st : Stands e w) (sight : snapshot.sight ≡ sight_at e.hub.txns.run e.hub.txns.next (unended e.hub.txns)) (is_sight : IsSight snapshot.sight) (ids : AreUnended w.machine snapshot.sight.list)
-    (sees : SeesCommitted w.machine (length w.machine.history) snapshot.sight) (runs : RunsAs (after w.machine CheckpointStart) (Some running)) where
-  -- with this snapshot
-  abbrev pub started : RunningCheckpoint
-  started = record { snapshot = snapshot; oldest = running.oldest; stable = running.stable; tables = running.tables }
-
+module _ (e : Engine) (g : Ground) (w : World) (running : RunningCheckpoint) (st : Stands e w) (sight : running.snapshot.sight ≡ sight_at e.hub.txns.run e.hub.txns.next (unended e.hub.txns)) (is_sight : IsSight running.snapshot.sight) (ids : AreUnended w.machine running.snapshot.sight.list)
+    (runs : RunsAs (after w.machine CheckpointStart) (Some running)) where
   checkpoint_is : runs.0 ≡ begun w.machine
   checkpoint_is = sym (some_same runs.1)
 
   is : IsRunning (after w.machine CheckpointStart) (begun w.machine) running
   is = subst (λ (c : Checkpoint). IsRunning (after w.machine CheckpointStart) c running) checkpoint_is runs.2
 
-  run_is : snapshot.sight.run ≡ w.machine.run
+  run_is : running.snapshot.sight.run ≡ w.machine.run
   run_is = ap (λ (s : Sight). s.run) sight ∙ st.txns.run
 
-  max_is : snapshot.sight.max ≡ w.machine.next
+  max_is : running.snapshot.sight.max ≡ w.machine.next
   max_is = ap (λ (s : Sight). s.max) sight ∙ st.txns.next
 
-  least_is : snapshot.sight.min ≡ least_or w.machine.next snapshot.sight.list
+  least_is : running.snapshot.sight.min ≡ least_or w.machine.next running.snapshot.sight.list
   least_is = ap (λ (s : Sight). s.min) sight ∙ (ap (λ (n : ℕ). least_or n (unended e.hub.txns)) st.txns.next ∙ ap (least_or w.machine.next) (sym (ap (λ (s : Sight). s.list) sight)))
 
-  pub starts : Respects w.machine g.floor → g.number < 2 ^ 62 - 1 → MayStart w.machine g.number (Ok tt) → Stands e (record w { machine = after w.machine CheckpointStart }) → Starts e g w started
+  pub starts : Respects w.machine g.floor → g.number < 2 ^ 62 - 1 → MayStart w.machine g.number (Ok tt) → Stands e (record w { machine = after w.machine CheckpointStart }) → Starts e g w running
   starts respects number may stands = record {
     may = may;
     stands = stands;
     under_way = record {
       runs = refl;
-      is = record {
-        sees = sees_started w.machine (length w.machine.history) snapshot.sight sees;
-        oldest = is.oldest;
-        ended = is.ended;
-        stable = is.stable;
-        tables = is.tables;
-      };
+      is = is;
       number = number;
-      unseen = sees_none w.machine snapshot.sight run_is is_sight ids;
-      respects = (started_goes w.machine (floor_at snapshot.sight) (respects_now w.machine snapshot.sight run_is max_is is_sight ids)).0;
-      above = above_now w.machine snapshot.sight g.floor run_is least_is ids respects;
+      unseen = sees_none w.machine running.snapshot.sight run_is is_sight ids;
+      respects = (started_goes w.machine (floor_at running.snapshot.sight) (respects_now w.machine running.snapshot.sight run_is max_is is_sight ids)).0;
+      above = above_now w.machine running.snapshot.sight g.floor run_is least_is ids respects;
     };
   }

@@ -39,21 +39,12 @@ pub fn start(alloc: Global, ground: &Ground, engine: &Local) -> Result<RunningCh
         Ok(()) => {}
         Err(refusal) => return Err(refusal),
     }
-    let Ok(started) = engine.start_checkpoint(alloc) else {
-        return Err(Refusal::NoMemory);
-    };
-    // One of which is known that its least id is that of the oldest transaction which has not ended.
-    let Ok(snapshot) = engine.checkpoint_snapshot(alloc) else {
+    let Ok(running) = engine.start_checkpoint(alloc) else {
         return Err(Refusal::NoMemory);
     };
     // What holds of every snapshot holds of this one.
-    let _view = snapshot.view(0, 0);
-    Ok(RunningCheckpoint {
-        snapshot,
-        oldest: started.oldest,
-        stable: started.stable,
-        tables: started.tables,
-    })
+    let _view = running.snapshot.view(0, 0);
+    Ok(running)
 }
 
 /// The checkpoint that runs is finished: of each table that stood as it started the tree of the newest

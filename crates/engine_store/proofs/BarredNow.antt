@@ -17,20 +17,22 @@ use Rattle.engine_world.specs.Worlds.{Records, World}
 use Rattle.engine_world.proofs.HubMoves.{decided-down, decided-up}
 use Rattle.engine.specs.Checkpoints.{MayStart}
 use Rattle.engine.specs.Closes.{busy_in, close_told}
-use Rattle.engine.specs.declared.running_checkpoint.RunningCheckpoint.{RunningCheckpoint}
 use Rattle.ckpt_step.specs.Floors.{GoesOn, Respects}
 use Rattle.ckpt_step.specs.Rooms.{known_in}
 use Rattle.ckpt_step.proofs.Floors.{follows_goes}
 use Rattle.ckpt_step.specs.Moments.{IsUnderWay}
 use Rattle.ckpt_step.specs.Takes.{IsBarred, Starts, begun}
+use Rattle.engine_store.specs.declared.progress.Progress.{Progress}
+use Rattle.engine_store.specs.declared.progress.Underway.{Underway}
 use Rattle.engine_store.specs.declared.store.Store.{Store}
 use Rattle.engine_store.specs.Devices.{Installed, IsNumberOf, may_open_to}
 use Rattle.engine_store.specs.Finishes.{IsBarredNow, StartsTo}
 use Rattle.engine_store.specs.Held.{Checkpoints, IsGrounded, IsHeldIn}
+use Rattle.engine_store.specs.Progress.{first_place}
 use Rattle.engine_store.specs.Running.{RunsOver}
 use Rattle.engine_store.proofs.Contents.{numbered}
 use Rattle.engine_store.proofs.OtherRecords.{held_kept, other_records}
-use Rattle.engine_store.proofs.Taking.{number_held}
+use Rattle.engine_store.proofs.CheckpointTaken.{number_held}
 
 -- no other one starts
 busy_start : (m : Machine) (c : Checkpoint) (n : ℕ) → m.fault ≡ None → m.checkpoint ≡ Some c → MayStart m n (Err (told.Busy who.Checkpoint))
@@ -49,8 +51,8 @@ barred_told s w r stands idle (inr (up, (x, runs, is))) = absurd (let e : None �
 
 module _ {D : Type 0} (g : Ghosts D) (start_disk disk : D) (image : g.may_leave disk (g.seen disk)) (s : Store) (w : World) (first : Completed) (made : List Installed) (held : IsHeldIn g start_disk s disk w first made) where
   -- the one that runs
-  runs_now : (x : RunningCheckpoint) → s.running ≡ Some x → (c : Checkpoint) × IsUnderWay w.machine c x s.ground
-  runs_now x is = subst (λ (o : Option RunningCheckpoint). RunsOver s.ground o w.machine) is held.running
+  runs_now : (x : Underway) → s.running ≡ Some x → (c : Checkpoint) × IsUnderWay w.machine c x.checkpoint s.ground
+  runs_now x is = subst (λ (o : Option Underway). RunsOver s.ground o w.machine) is held.running
 
   barred_start : (r : Refusal) → IsBarredNow s r → (n : ℕ) → MayStart w.machine n (Err r)
   barred_start r (inl (f, fell, is)) n = subst (λ (x : Refusal). MayStart w.machine n (Err x)) (sym is) (decided-down w.machine 0 (StartCall n) f (sym held.stands.fault ∙ fell) refl)
@@ -85,7 +87,7 @@ module _ {D : Type 0} (g : Ghosts D) (start_disk disk : D) (image : g.may_leave 
   StartsHere s' result = StartsTo g start_disk w first made s s' disk disk result
 
   starts_not : (r : Refusal) (n : ℕ) → IsNumberOf (g.seen disk) n → MayStart w.machine n (Err r) → StartsHere s (Err r)
-  starts_not r n at barred = record { next = w.machine; answers = inr (n, at, (NotDone r, (Nothing, barred, refl), refl)); held = held_kept g start_disk disk s w first made held }
+  starts_not r n at barred = record { next = w.machine; begins = tt; answers = inr (n, at, (NotDone r, (Nothing, barred, refl), refl)); held = held_kept g start_disk disk s w first made held }
 
   pub starts_barred : (r : Refusal) → IsBarredNow s r → StartsHere s (Err r)
   starts_barred r barred = starts_not r numbered_now.0 numbered_now.1 (barred_start r barred numbered_now.0)
@@ -100,17 +102,18 @@ module _ {D : Type 0} (g : Ghosts D) (start_disk disk : D) (image : g.may_leave 
     -- it does not start
     pub starts_err : (r : Refusal) → IsBarred w.machine s.ground.number r ⊎ (r ≡ told.NoMemory) → StartsHere s (Err r)
     starts_err r (inl barred) = starts_not r s.ground.number at_ground barred
-    starts_err r (inr short) = record { next = w.machine; answers = inl (ap (λ (x : Refusal). let a : Answer (List ℕ) = Refused x in a) short, refl); held = held_kept g start_disk disk s w first made held }
+    starts_err r (inr short) = record { next = w.machine; begins = tt; answers = inl (ap (λ (x : Refusal). let a : Answer (List ℕ) = Refused x in a) short, refl); held = held_kept g start_disk disk s w first made held }
 
     -- it starts
-    pub starts_ok : (r : RunningCheckpoint) → (Respects w.machine s.ground.floor → Starts s.engine s.ground w r) → StartsHere (record s { running = Some r }) (Ok tt)
-    starts_ok r starts =
+    pub starts_ok : (u : Underway) → u.progress ≡ first_place → (Respects w.machine s.ground.floor → Starts s.engine s.ground w u.checkpoint) → StartsHere (record s { running = Some u }) (Ok tt)
+    starts_ok u at_first starts =
         let x = starts on.follows.respects in
         let next : World = record w { machine = after_event w.machine CheckpointStart } in
         record {
           next = after_event w.machine CheckpointStart;
+          begins = ap (λ (p : Progress). let o : Option Progress = Some p in o) at_first;
           answers = inr (s.ground.number, at_ground, (IsDone, (CheckpointStart, x.may, refl), refl));
-          held = held_kept g start_disk disk (record s { running = Some r }) next first made (record {
+          held = held_kept g start_disk disk (record s { running = Some u }) next first made (record {
             stands = x.stands;
             running = (begun w.machine, x.under_way);
             kept = held.kept;
@@ -136,4 +139,4 @@ module _ {D : Type 0} (g : Ghosts D) (start_disk disk : D) (image : g.may_leave 
 
 -- in a world with another history
 pub starts_as : {D : Type 0} (g : Ghosts D) (start_disk : D) (w : World) (q : Records) (first : Completed) (made : List Installed) (s s' : Store) (before after : D) (result : Result (Unit {0}) Refusal) → StartsTo g start_disk (other_records q w) first made s s' before after result → StartsTo g start_disk w first made s s' before after result
-starts_as g start_disk w q first made s s' before after result x = record { next = x.next; answers = x.answers; held = x.held }
+starts_as g start_disk w q first made s s' before after result x = record { next = x.next; begins = x.begins; answers = x.answers; held = x.held }

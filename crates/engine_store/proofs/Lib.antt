@@ -36,7 +36,9 @@ pub mod Relieving
 pub mod Begun
 pub mod BarredNow
 pub mod CheckpointEnds
-pub mod Taking
+pub mod CheckpointTaken
+pub mod LeavesLeft
+pub mod CheckpointSteps
 pub mod WritingOut
 pub mod Shutting
 pub mod Reopening

@@ -43,7 +43,7 @@ use Rattle.engine_store.proofs.Contents.{numbered}
 use Rattle.engine_store.proofs.CutShelves.{below, changed_there, cut, cut_past, follows_cut, kept_parted, on_cut, stands_cut}
 use Rattle.engine_store.proofs.GoingOut.{held_out, none_out}
 use Rattle.engine_store.proofs.OtherRecords.{held_kept, keeps_at}
-use Rattle.engine_store.proofs.Taking.{kept_held}
+use Rattle.engine_store.proofs.CheckpointTaken.{kept_held}
 use Rattle.engine_store.proofs.UnderWayStill.{runs_down}
 use Rattle.engine_store.proofs.WritingOut.{alike_then, still_later}
 

@@ -46,7 +46,7 @@ use Rattle.engine_store.specs.Images.{OpensToLast}
 use Rattle.engine_store.proofs.Closings.{StaysSo, free_of, stays_rolled, up_of}
 use Rattle.engine_store.proofs.Contents.{most_number}
 use Rattle.engine_store.proofs.OtherRecords.{held_kept}
-use Rattle.engine_store.proofs.Taking.{by_takes, number_held}
+use Rattle.engine_store.proofs.CheckpointTaken.{by_takes, number_held}
 use Rattle.engine_store.proofs.UnderWayStill.{none_runs, runs_none}
 
 -- ---- what is decided

@@ -22,9 +22,10 @@ use Rattle.engine.specs.Running.{IsRunning, RunsAs}
 use Rattle.ckpt_step.specs.declared.ground.Ground.{Ground}
 use Rattle.ckpt_step.specs.Floors.{GoesOn, is_before}
 use Rattle.ckpt_step.specs.Moments.{IsUnderWay, floor_at}
+use Rattle.engine_store.specs.declared.progress.Underway.{Underway}
 use Rattle.engine_store.specs.Devices.{last_number}
 use Rattle.engine_store.specs.Keeping.{IsSameButKept}
-use Rattle.engine_store.specs.Running.{RunsOver}
+use Rattle.engine_store.specs.Running.{RunsOver, checkpoint_of}
 use Rattle.engine_store.proofs.Apart.{GoesApart, Grows, IsApart, IsUnseen, apart_down, committed_grown}
 
 -- ---- its snapshot
@@ -133,19 +134,19 @@ still_under_way m next c r g valid now same on goes u =
     }
 
 -- the machine goes on
-pub runs_on : (g : Ground) (o : Option RunningCheckpoint) (m next : Machine) → Valid m → Valid next → next.checkpoint ≡ m.checkpoint → GoesOn m next → GoesApart m next → RunsOver g o m → RunsOver g o next
+pub runs_on : (g : Ground) (o : Option Underway) (m next : Machine) → Valid m → Valid next → next.checkpoint ≡ m.checkpoint → GoesOn m next → GoesApart m next → RunsOver g o m → RunsOver g o next
 runs_on g None m next valid now same on goes none = same ∙ none
-runs_on g (Some r) m next valid now same on goes (c, u) = (c, still_under_way m next c r g valid now same on goes u)
+runs_on g (Some x) m next valid now same on goes (c, u) = (c, still_under_way m next c x.checkpoint g valid now same on goes u)
 
 -- it is down
-pub runs_down : (g : Ground) (o : Option RunningCheckpoint) (m : Machine) (fault : Fault) → Valid m → Valid (after_event m (GoDown fault)) → RunsOver g o m → RunsOver g o (after_event m (GoDown fault))
+pub runs_down : (g : Ground) (o : Option Underway) (m : Machine) (fault : Fault) → Valid m → Valid (after_event m (GoDown fault)) → RunsOver g o m → RunsOver g o (after_event m (GoDown fault))
 runs_down g o m fault valid now runs =
     runs_on g o m (after_event m (GoDown fault)) valid now refl (λ floor r. (record { next = r.next; living = r.living }, λ table key. refl)) (apart_down m (after_event m (GoDown fault)) refl refl refl refl) runs
 
 -- on another ground of the same checkpoint
-pub runs_ground : (g g' : Ground) (o : Option RunningCheckpoint) (m : Machine) → g'.number ≡ g.number → g'.floor ≡ g.floor → RunsOver g o m → RunsOver g' o m
+pub runs_ground : (g g' : Ground) (o : Option Underway) (m : Machine) → g'.number ≡ g.number → g'.floor ≡ g.floor → RunsOver g o m → RunsOver g' o m
 runs_ground g g' None m number floor none = none
-runs_ground g g' (Some r) m number floor (c, u) = (
+runs_ground g g' (Some x) m number floor (c, u) = (
   c,
   record {
     runs = u.runs;
@@ -153,29 +154,35 @@ runs_ground g g' (Some r) m number floor (c, u) = (
     number = subst (λ (n : ℕ). n < last_number) (sym number) u.number;
     respects = u.respects;
     unseen = u.unseen;
-    above = subst (λ (f : Name). (x : Name) → is_before f x ≡ true → is_before (floor_at r.snapshot.sight) x ≡ true) (sym floor) u.above;
+    above = subst (λ (f : Name). (y : Name) → is_before f y ≡ true → is_before (floor_at x.checkpoint.snapshot.sight) y ≡ true) (sym floor) u.above;
   },
 )
 
-pub runs_kept : (g g' : Ground) (o : Option RunningCheckpoint) (m : Machine) → IsSameButKept g g' → RunsOver g o m → RunsOver g' o m
+pub runs_kept : (g g' : Ground) (o : Option Underway) (m : Machine) → IsSameButKept g g' → RunsOver g o m → RunsOver g' o m
 runs_kept g g' o m same runs = runs_ground g g' o m (ap (λ (x : Ground). x.number) same) (ap (λ (x : Ground). x.floor) same) runs
 
 -- as what asks of the engine is told
-pub runs_as : (g : Ground) (o : Option RunningCheckpoint) (m : Machine) → RunsOver g o m → RunsAs m o
+pub runs_as : (g : Ground) (o : Option Underway) (m : Machine) → RunsOver g o m → RunsAs m (checkpoint_of o)
 runs_as g None m none = none
-runs_as g (Some r) m (c, u) = (c, u.runs, u.is)
+runs_as g (Some x) m (c, u) = (c, u.runs, u.is)
 
 -- lent
-pub runs_lent : (g : Ground) (o lent : Option RunningCheckpoint) (m : Machine) → lent ≡ o → RunsOver g o m → RunsAs m lent
+pub runs_lent : (g : Ground) (o : Option Underway) (lent : Option RunningCheckpoint) (m : Machine) → lent ≡ checkpoint_of o → RunsOver g o m → RunsAs m lent
 runs_lent g o lent m same runs = subst (λ (x : Option RunningCheckpoint). RunsAs m x) (sym same) (runs_as g o m runs)
 
 -- none does
-pub runs_none : (g : Ground) (o : Option RunningCheckpoint) (m : Machine) → o ≡ None → RunsOver g o m → m.checkpoint ≡ None
-runs_none g o m none runs = subst (λ (x : Option RunningCheckpoint). RunsOver g x m) none runs
+pub runs_none : (g : Ground) (o : Option Underway) (m : Machine) → o ≡ None → RunsOver g o m → m.checkpoint ≡ None
+runs_none g o m none runs = subst (λ (x : Option Underway). RunsOver g x m) none runs
 
-pub none_runs : (g : Ground) (o : Option RunningCheckpoint) (m : Machine) → o ≡ None → m.checkpoint ≡ None → RunsOver g o m
-none_runs g o m none free = subst (λ (x : Option RunningCheckpoint). RunsOver g x m) (sym none) free
+pub none_runs : (g : Ground) (o : Option Underway) (m : Machine) → o ≡ None → m.checkpoint ≡ None → RunsOver g o m
+none_runs g o m none free = subst (λ (x : Option Underway). RunsOver g x m) (sym none) free
 
 -- the same one
-pub runs_same : (g : Ground) (o o' : Option RunningCheckpoint) (m : Machine) → o' ≡ o → RunsOver g o m → RunsOver g o' m
-runs_same g o o' m same runs = subst (λ (x : Option RunningCheckpoint). RunsOver g x m) (sym same) runs
+pub runs_same : (g : Ground) (o o' : Option Underway) (m : Machine) → o' ≡ o → RunsOver g o m → RunsOver g o' m
+runs_same g o o' m same runs = subst (λ (x : Option Underway). RunsOver g x m) (sym same) runs
+
+-- a step of it was taken: it is the same checkpoint
+pub runs_stepped : (g : Ground) (o : Option Underway) (u v : Underway) (m : Machine) → o ≡ Some u → v.checkpoint ≡ u.checkpoint → RunsOver g o m → RunsOver g (Some v) m
+runs_stepped g o u v m some same runs =
+    let x : (c : Checkpoint) × IsUnderWay m c u.checkpoint g = subst (λ (y : Option Underway). RunsOver g y m) some runs in
+    (x.0, subst (λ (r : RunningCheckpoint). IsUnderWay m x.0 r g) (sym same) x.1)

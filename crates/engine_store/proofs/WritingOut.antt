@@ -39,7 +39,7 @@ use Rattle.engine_store.specs.Running.{RunsOver}
 use Rattle.engine_store.proofs.Contents.{numbered, one_number}
 use Rattle.engine_store.proofs.CutShelves.{cut, cut_past, follows_cut, kept_cut, on_cut, stands_cut}
 use Rattle.engine_store.proofs.OtherRecords.{held_kept}
-use Rattle.engine_store.proofs.Taking.{clock_held, kept_held, same_store}
+use Rattle.engine_store.proofs.CheckpointTaken.{clock_held, kept_held, same_store}
 use Rattle.engine_store.proofs.UnderWayStill.{none_runs, runs_none}
 
 -- ---- a device has one checkpoint, or none

@@ -46,9 +46,9 @@ CheckpointTakes lives old new m answer next =
     IsShort m answer next
     ⊎ ((number : ℕ) × (start : Result (Unit {0}) Refusal) × IsNumberOf old.seen number × MayStart m number start × StartedAs lives old new m answer next start)
 
--- what the device has behind a call that takes a checkpoint of this machine: that one where it is done, the one before where it is refused and the engine stays up
+-- what the device has behind a call that takes a checkpoint of this machine: that one where it is done, with the number behind that of the one before; the one before where it is refused and the engine stays up
 abbrev pub HasBehind : Device → Device → Machine → Machine → Answer (List ℕ) → Type 0
-HasBehind old new m next Done = (s : OnDevice) × (number : ℕ) × IsWholeOf m number s × IsOn new.seen s
+HasBehind old new m next Done = (s : OnDevice) × (number : ℕ) × IsNumberOf old.seen number × IsWholeOf m number s × IsOn new.seen s
 HasBehind old new m next (Refused r) = next.fault ≡ None → (s : Option OnDevice) × HasStill s old.seen × HasStill s new.seen
 HasBehind old new m next _ = ⊥
 

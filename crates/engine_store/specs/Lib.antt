@@ -14,6 +14,7 @@ pub mod Loads
 pub mod Calls
 pub mod Fetches
 pub mod Found
+pub mod Progress
 pub mod Running
 pub mod Held
 pub mod Finishes

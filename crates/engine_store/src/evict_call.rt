@@ -12,6 +12,7 @@ ghost use Rattle.engine_store.specs.EvictCalls.{EvictsFrom, EvictsLeafFrom, IsKe
 ghost use Rattle.engine_store.specs.Opened.{IsReady};
 ghost use Rattle.engine_store.specs.Room.{RoomAlike};
 
+use crate::progress::checkpoint_in;
 use crate::store::Store;
 use catalog::is_name;
 use ckpt_step::{Evicted, evict};
@@ -54,6 +55,7 @@ impl Store {
         ensures fault { IfErr result (λ r. r ≡ Refusal.DiskFault → Rose (D.faults disk.old) (D.faults disk.new)) }
         ensures sessions { length self.new.engine.sessions ≡ length self.old.engine.sessions }
         ensures frames { self.new.frames ≡ self.old.frames }
+        ensures running { self.new.running ≡ self.old.running }
         ensures number { self.new.ground.number ≡ self.old.ground.number }
         ensures ready { IsReady self.old → IsReady self.new }
         ensures told { StaysTold D.Disk self.old self.new disk.old disk.new }
@@ -119,7 +121,7 @@ impl Store {
         ensures alike { RoomAlike D.Disk self.old self.new disk.old disk.new }
     {
         downs_go();
-        let running = self.running.as_ref();
+        let running = checkpoint_in(&self.running);
         match evict(
             alloc,
             disk,

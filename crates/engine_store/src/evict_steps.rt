@@ -47,6 +47,7 @@ impl Store {
         ensures fault { EndsWith (EvictTurn.Ended result) Refusal.DiskFault → Rose (D.faults disk.old) (D.faults disk.new) }
         ensures sessions { length self.new.engine.sessions ≡ length self.old.engine.sessions }
         ensures frames { self.new.frames ≡ self.old.frames }
+        ensures running { self.new.running ≡ self.old.running }
         ensures number { self.new.ground.number ≡ self.old.ground.number }
         ensures ready { IsReady self.old → IsReady self.new }
         ensures told { StaysTold D.Disk self.old self.new disk.old disk.new }
@@ -122,6 +123,7 @@ impl Store {
         ensures fault { EndsWith result Refusal.DiskFault → Rose (D.faults disk.old) (D.faults disk.new) }
         ensures sessions { length self.new.engine.sessions ≡ length self.old.engine.sessions }
         ensures frames { self.new.frames ≡ self.old.frames }
+        ensures running { self.new.running ≡ self.old.running }
         ensures number { self.new.ground.number ≡ self.old.ground.number }
         ensures ready { IsReady self.old → IsReady self.new }
         ensures told { StaysTold D.Disk self.old self.new disk.old disk.new }
@@ -146,6 +148,7 @@ impl Store {
         ensures fault { EndsWith result Refusal.DiskFault → Rose (D.faults disk.old) (D.faults disk.new) }
         ensures sessions { length self.new.engine.sessions ≡ length self.old.engine.sessions }
         ensures frames { self.new.frames ≡ self.old.frames }
+        ensures running { self.new.running ≡ self.old.running }
         ensures number { self.new.ground.number ≡ self.old.ground.number }
         ensures ready { IsReady self.old → IsReady self.new }
         ensures told { StaysTold D.Disk self.old self.new disk.old disk.new }
@@ -272,6 +275,7 @@ impl Store {
         ensures fault { EndsWith (EvictTurn.Ended result) Refusal.DiskFault → Rose (D.faults disk.old) (D.faults disk.new) }
         ensures sessions { length self.new.engine.sessions ≡ length self.old.engine.sessions }
         ensures frames { self.new.frames ≡ self.old.frames }
+        ensures running { self.new.running ≡ self.old.running }
         ensures number { self.new.ground.number ≡ self.old.ground.number }
         ensures ready { IsReady self.old → IsReady self.new }
         ensures told { StaysTold D.Disk self.old self.new disk.old disk.new }

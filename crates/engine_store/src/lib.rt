@@ -5,8 +5,9 @@
 //! holds begins with, its history too, and that a close rolls back each transaction and takes a
 //! checkpoint (`ckpt_step`). A checkpoint, a close and an opening anew keep what holds between two
 //! calls (`IsHeld`): at each moment a crash leaves what opens to a checkpoint that was done, or was
-//! being installed since. One may run beside other work: `Store::start_checkpoint` begins it, and
-//! `Store::finish_checkpoint` writes what it captured, as it was when it started. So do the calls of actors, whose leaves are read
+//! being installed since. One may run beside other work: `Store::start_checkpoint` begins it,
+//! each `Store::step_checkpoint` takes one of its leaves, and `Store::finish_checkpoint` writes what it
+//! captured, as it was when it started. So do the calls of actors, whose leaves are read
 //! from the device when they need them, and leave memory behind a call that read others, or behind
 //! a checkpoint; those that calls changed go out of it where the caller asks for it, while nobody
 //! is at work (`Store::write_out`) or whoever is (`Store::make_room`, and of one key
@@ -29,6 +30,7 @@ mod loading;
 mod marked;
 mod opening;
 mod places;
+mod progress;
 mod relief;
 mod room;
 mod store;
@@ -39,5 +41,6 @@ pub use evict_steps::EvictTurn;
 pub use eviction::FRAMES;
 pub use frames::Frames;
 pub use opening::open_on;
+pub use progress::{Progress, Remains, Underway};
 pub use store::Store;
 pub use writing_out::CHANGED_LEAST;

@@ -8,6 +8,7 @@ ghost use Rattle.engine_store.specs.Room.{MakesRoom, RoomAlike};
 
 use crate::eviction::TRIES;
 use crate::frames::Frames;
+use crate::progress::checkpoint_in;
 use crate::store::Store;
 use crate::writing_out::{CHANGED_LEAST, is_short};
 use ckpt_step::evict;
@@ -37,6 +38,7 @@ impl Store {
     pub fn make_room<D: Disk>(&mut self, alloc: Global, disk: &mut D)
         ensures room { MakesRoom D.Disk self.old self.new disk.old disk.new }
         ensures frames { self.new.frames ≡ self.old.frames }
+        ensures running { self.new.running ≡ self.old.running }
         ensures sessions { length self.new.engine.sessions ≡ length self.old.engine.sessions }
         ensures number { self.new.ground.number ≡ self.old.ground.number }
         ensures ready { IsReady self.old → IsReady self.new }
@@ -55,6 +57,7 @@ impl Store {
     )
         ensures room { MakesRoom D.Disk self.old self.new disk.old disk.new }
         ensures frames { self.new.frames ≡ self.old.frames }
+        ensures running { self.new.running ≡ self.old.running }
         ensures sessions { length self.new.engine.sessions ≡ length self.old.engine.sessions }
         ensures number { self.new.ground.number ≡ self.old.ground.number }
         ensures ready { IsReady self.old → IsReady self.new }
@@ -160,7 +163,7 @@ impl Store {
         ensures alike { RoomAlike D.Disk self.old self.new disk.old disk.new }
     {
         downs_go();
-        let running = self.running.as_ref();
+        let running = checkpoint_in(&self.running);
         match evict(
             alloc,
             disk,

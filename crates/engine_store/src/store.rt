@@ -20,10 +20,11 @@ ghost use Rattle.engine_store.specs.Opened.{IsAtFault, IsReady};
 use crate::eviction::Clock;
 use crate::frames::Frames;
 use crate::opening::open_on;
+use crate::progress::Underway;
 use ckpt_content::finishes_open;
 use ckpt_step::{Ground, checkpoint, checkpoints_have_newest};
 use disk_model::Disk;
-use engine::{Local, RunningCheckpoint};
+use engine::Local;
 use engine_world::downs_go;
 use std::alloc::Global;
 use wt_code::{Busy, Refusal};
@@ -36,7 +37,7 @@ pub struct Store {
     /// The last completed checkpoint of its device.
     pub ground: Ground,
     /// The checkpoint that runs, if one does.
-    pub running: Option<RunningCheckpoint>,
+    pub running: Option<Underway>,
     /// How many frames it has: so many leaves stay in memory that were only read, while calls need
     /// others. A leaf whose keys were written stays beside them up to the next checkpoint, or until
     /// `make_room` finds it. Where they are firm, a call whose leaf needs one while each has a leaf that
@@ -59,6 +60,7 @@ impl Store {
         ensures fault { IfErr result (λ r. r ≡ Refusal.DiskFault → Rose (D.faults disk.old) (D.faults disk.new)) }
         ensures sessions { length self.new.engine.sessions ≡ length self.old.engine.sessions }
         ensures frames { self.new.frames ≡ self.old.frames }
+        ensures running { self.new.running ≡ self.old.running }
         ensures ready { IsReady self.new }
         ensures told { StaysTold D.Disk self.old self.new disk.old disk.new }
         ensures disk { SameDisk D.Disk disk.old disk.new }
@@ -92,6 +94,7 @@ impl Store {
         ensures fault { IfErr result (λ r. r ≡ Refusal.DiskFault → Rose (D.faults disk.old) (D.faults disk.new)) }
         ensures sessions { length self.new.engine.sessions ≡ length self.old.engine.sessions }
         ensures frames { self.new.frames ≡ self.old.frames }
+        ensures running { self.new.running ≡ self.old.running }
         ensures ready { IsReady self.new }
         ensures told { StaysTold D.Disk self.old self.new disk.old disk.new }
         ensures disk { SameDisk D.Disk disk.old disk.new }

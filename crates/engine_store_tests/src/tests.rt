@@ -10,6 +10,7 @@ mod older;
 mod room;
 mod spoilt;
 mod started;
+mod started_failing;
 mod written_out;
 
 use bench::Row;

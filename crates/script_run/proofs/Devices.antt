@@ -32,10 +32,13 @@ use Rattle.engine_store.specs.Devices.{Device, Installed, IsLater, device_of}
 use Rattle.engine_store.specs.Held as held
 use Rattle.engine_store.specs.Held.{IsHeld}
 use Rattle.engine_store.specs.Keeping.{begun_with}
+use Rattle.engine_store.specs.Progress.{place_in}
+use Rattle.engine_store.proofs.UnderWayStill.{runs_none}
 use Rattle.script_run.specs.declared.kept.Kept.{Kept}
 use Rattle.script_run.specs.declared.told.Told.{Told}
 use Rattle.script_run.specs.Runs.{IsAt, IsStopped, IsTold, RepliedAs}
-use Rattle.script_run.specs.Scripts.{BySystem, Checkpoints, Closes, ClosesBusy, NotReopened, Reopens, RunsLine, Script, is_busy, nothing_kept, on_device, opened_world, plain}
+use Rattle.script_run.specs.Scripts.{BySystem, Checkpoints, Closes, ClosesBusy, NotReopened, Reopens, RunsLine, Script, has_call_kept, is_busy, nothing_kept, on_device, opened_world, plain}
+use Rattle.script_run.proofs.NoneRuns.{not_running}
 
 -- ---- what goes on
 
@@ -49,9 +52,9 @@ by_busy s reply later Goes busy told same = subst (λ (b : Bool). MatchBool b ((
 by_idle : (s : Script) (reply : Reply) (later : Script) (Goes : Type 0) → is_busy s ≡ false → Goes → BySystem s reply later Goes
 by_idle s reply later Goes idle goes = subst (λ (b : Bool). MatchBool b ((reply ≡ Answered (Refused (Invalid InCall))) × (later ≡ s)) Goes) (sym idle) goes
 
--- whether it has, where the evictions are these
-pub busy_by : (s : Script) (evicting : List (Option Evicting)) (b : Bool) → s.kept.evicting ≡ evicting → b ≡ (is_there (slice_index_or s.world.systems 0 None) || is_there (evicting_by evicting 0)) → is_busy s ≡ b
-busy_by s evicting b same is = ap (λ (l : List (Option Evicting)). is_there (slice_index_or s.world.systems 0 None) || is_there (evicting_by l 0)) same ∙ sym is
+-- whether it has, where this is kept
+pub busy_by : (s : Script) (kept : Kept) (b : Bool) → s.kept ≡ kept → b ≡ (is_there (slice_index_or s.world.systems 0 None) || has_call_kept kept 0) → is_busy s ≡ b
+busy_by s kept b same is = ap (λ (k : Kept). is_there (slice_index_or s.world.systems 0 None) || has_call_kept k 0) same ∙ sym is
 
 -- an eviction that has found its leaf
 found_one : (o : Option Evicting) (target : Target) → found_on o ≡ Some target → (x : Evicting) × (o ≡ Some x) × (found_in x.stage ≡ Some target)
@@ -60,7 +63,7 @@ found_one (Some x) target is = (x, refl, is)
 
 -- ---- a checkpoint, and a close
 
-module _ {D : Type 0} (g : Ghosts D) (first : D) (s : Script) (store store' : Store) (disk disk' : D) (result : Result (Unit {0}) Refusal) (at : IsAt g first store disk s) (frames : store'.frames ≡ store.frames) where
+module _ {D : Type 0} (g : Ghosts D) (first : D) (s : Script) (store store' : Store) (disk disk' : D) (result : Result (Unit {0}) Refusal) (at : IsAt g first store disk s) (frames : store'.frames ≡ store.frames) (running : store'.running ≡ store.running) where
   module _ (shelf : ℕ → List Row) (x : held.CheckpointsOn g first s.world s.first s.made store store' disk disk' shelf result) where
     abbrev checkpoint_later : Script
     checkpoint_later = on_device (record s { world = record s.world { shelf = shelf } }) x.next (device_of g disk') x.now
@@ -81,7 +84,7 @@ module _ {D : Type 0} (g : Ghosts D) (first : D) (s : Script) (store store' : St
     }
 
     checkpoint_at : IsAt g first store' disk' checkpoint_later
-    checkpoint_at = record { held = x.held; device = refl; frames = frames ∙ at.frames }
+    checkpoint_at = record { held = x.held; device = refl; frames = frames ∙ at.frames; progress = ap place_in running ∙ at.progress }
 
   module _ (x : held.Shuts g first s.world s.first s.made store store' disk disk' result) where
     abbrev close_later : Script
@@ -100,7 +103,7 @@ module _ {D : Type 0} (g : Ghosts D) (first : D) (s : Script) (store store' : St
     }
 
     close_at : IsAt g first store' disk' close_later
-    close_at = record { held = x.held; device = refl; frames = frames ∙ at.frames }
+    close_at = record { held = x.held; device = refl; frames = frames ∙ at.frames; progress = ap place_in running ∙ at.progress }
 
 module _ {D : Type 0} (g : Ghosts D) (first : D) (s : Script) (store : Store) (disk : D) (told : Told) where
   pub checkpoint_busy : IsAt g first store disk s → is_busy s ≡ true → told.reply ≡ Answered (Refused (Invalid InCall)) → told.formats ≡ plain
@@ -111,12 +114,12 @@ module _ {D : Type 0} (g : Ghosts D) (first : D) (s : Script) (store : Store) (d
       → IsTold g first (OfAll Close) s store disk kept told
   close_busy kept at same busy reply formats = record { later = s; replies = (s, (formats, by_busy s told.reply s _ busy reply refl), refl); at = at; start = refl; kept_is = same }
 
-module _ {D : Type 0} (g : Ghosts D) (first : D) (s : Script) (store store' : Store) (disk disk' : D) (at : IsAt g first store disk s) (idle : is_busy s ≡ false) (frames : store'.frames ≡ store.frames) (x : held.Shuts g first s.world s.first s.made store store' disk disk' (Ok tt)) where
+module _ {D : Type 0} (g : Ghosts D) (first : D) (s : Script) (store store' : Store) (disk disk' : D) (at : IsAt g first store disk s) (idle : is_busy s ≡ false) (frames : store'.frames ≡ store.frames) (running : store'.running ≡ store.running) (x : held.Shuts g first s.world s.first s.made store store' disk disk' (Ok tt)) where
   abbrev between : Script
-  between = close_later g first s store store' disk disk' (Ok tt) at frames x
+  between = close_later g first s store store' disk disk' (Ok tt) at frames running x
 
   closes : Closes s Done between
-  closes = close_is g first s store store' disk disk' (Ok tt) at frames x
+  closes = close_is g first s store store' disk disk' (Ok tt) at frames running x
 
   close_then : (last : Store) (now : D) (kept : Kept) (result : Result Told Refusal) → RepliedAs g first (OfAll Crash) between last now kept result → RepliedAs g first (OfAll Close) s last now kept result
   close_then last now kept (Ok told) r = record {
@@ -131,23 +134,23 @@ module _ {D : Type 0} (g : Ghosts D) (first : D) (s : Script) (store store' : St
       by (middle, (formats, (reopens, reply)), same) = (middle, (formats, by_idle s told.reply middle _ idle (inr (inr (between, closes, reopens, reply)))), same)
   close_then last now kept (Err e) r = record { later = r.later; stops = (idle, (between, closes, r.stops)); at = r.at; start = r.start }
 
-module _ {D : Type 0} (g : Ghosts D) (first : D) (s : Script) (store : Store) (disk : D) (at : IsAt g first store disk s) (idle : is_busy s ≡ false) (store' : Store) (disk' : D) (frames : store'.frames ≡ store.frames) where
+module _ {D : Type 0} (g : Ghosts D) (first : D) (s : Script) (store : Store) (disk : D) (at : IsAt g first store disk s) (idle : is_busy s ≡ false) (store' : Store) (disk' : D) (frames : store'.frames ≡ store.frames) (running : store'.running ≡ store.running) where
   pub checkpoint_told : (result : Result (Unit {0}) Refusal) (told : Told) → held.Checkpoints g first s.world s.first s.made store store' disk disk' result → told.reply ≡ Answered (answer_of result) → told.formats ≡ plain
       → IsTold g first (OfAll Checkpoint) s store' disk' s.kept told
   checkpoint_told result told x reply formats =
-      let later = checkpoint_later g first s store store' disk disk' result at frames x.0 x.1 in
+      let later = checkpoint_later g first s store store' disk disk' result at frames running x.0 x.1 in
       record {
         later = later;
-        replies = (later, (formats, by_idle s told.reply later _ idle (checkpoint_is g first s store store' disk disk' result at frames x.0 x.1 told.reply reply)), refl);
-        at = checkpoint_at g first s store store' disk disk' result at frames x.0 x.1;
+        replies = (later, (formats, by_idle s told.reply later _ idle (checkpoint_is g first s store store' disk disk' result at frames running x.0 x.1 told.reply reply)), refl);
+        at = checkpoint_at g first s store store' disk disk' result at frames running x.0 x.1;
         start = refl;
         kept_is = refl;
       }
 
   -- an eviction has found its leaf
-  pub close_evicting : (frame : ℕ) (kept : Kept) (told : Told) → s.kept ≡ kept → store.engine.hub.fault ≡ None → (number : ℕ) × (target : Target) × (found_on (evicting_by kept.evicting number) ≡ Some target) × (target.frame ≡ frame)
+  pub close_evicting : (frame : ℕ) (kept : Kept) (told : Told) → s.kept ≡ kept → store.engine.hub.fault ≡ None → store.running ≡ None → (number : ℕ) × (target : Target) × (found_on (evicting_by kept.evicting number) ≡ Some target) × (target.frame ≡ frame)
       → told.reply ≡ Answered (Refused (Busy (EvictingFrame frame))) → told.formats ≡ plain → IsTold g first (OfAll Close) s store disk kept told
-  close_evicting frame kept told same up (number, target, found, its) reply formats =
+  close_evicting frame kept told same up free (number, target, found, its) reply formats =
       let one = found_one (evicting_by s.kept.evicting number) target (ap (λ (k : Kept). found_on (evicting_by k.evicting number)) same ∙ found) in
       let busy : ClosesBusy s told.reply s = record {
         number = number;
@@ -156,6 +159,7 @@ module _ {D : Type 0} (g : Ghosts D) (first : D) (s : Script) (store : Store) (d
         target = target;
         found = one.2;
         up = sym at.held.stands.fault ∙ up;
+        idle = runs_none store.ground store.running s.world.machine free at.held.running;
         told = reply ∙ ap (λ (n : ℕ). Answered (Refused (Busy (EvictingFrame n)))) (sym its);
         same = refl;
       } in
@@ -165,11 +169,11 @@ module _ {D : Type 0} (g : Ghosts D) (first : D) (s : Script) (store : Store) (d
   pub close_refused : (r : Refusal) (kept : Kept) (told : Told) → held.Shuts g first s.world s.first s.made store store' disk disk' (Err r) → s.kept ≡ kept → told.reply ≡ Answered (Refused r) → told.formats ≡ plain
       → IsTold g first (OfAll Close) s store' disk' kept told
   close_refused r kept told x same reply formats =
-      let later = close_later g first s store store' disk disk' (Err r) at frames x in
+      let later = close_later g first s store store' disk disk' (Err r) at frames running x in
       record {
         later = later;
-        replies = (later, (formats, by_idle s told.reply later _ idle (inr (inl (r, close_is g first s store store' disk disk' (Err r) at frames x, reply)))), refl);
-        at = close_at g first s store store' disk disk' (Err r) at frames x;
+        replies = (later, (formats, by_idle s told.reply later _ idle (inr (inl (r, close_is g first s store store' disk disk' (Err r) at frames running x, reply)))), refl);
+        at = close_at g first s store store' disk disk' (Err r) at frames running x;
         start = refl;
         kept_is = same;
       }
@@ -177,7 +181,7 @@ module _ {D : Type 0} (g : Ghosts D) (first : D) (s : Script) (store : Store) (d
   -- one that is done, behind which the device is opened anew or not
   pub close_done : (x : held.Shuts g first s.world s.first s.made store store' disk disk' (Ok tt)) (last : Store) (now : D) (kept : Kept) (result : Result Told Refusal)
       → ((t : Script) → IsAt g first store' disk' t → RepliedAs g first (OfAll Crash) t last now kept result) → RepliedAs g first (OfAll Close) s last now kept result
-  close_done x last now kept result reopens = close_then g first s store store' disk disk' at idle frames x last now kept result (reopens (close_later g first s store store' disk disk' (Ok tt) at frames x) (close_at g first s store store' disk disk' (Ok tt) at frames x))
+  close_done x last now kept result reopens = close_then g first s store store' disk disk' at idle frames running x last now kept result (reopens (close_later g first s store store' disk disk' (Ok tt) at frames running x) (close_at g first s store store' disk disk' (Ok tt) at frames running x))
 
 -- ---- an opening anew
 
@@ -199,7 +203,7 @@ module _ {D : Type 0} (g : Ghosts D) (first : D) (s : Script) (store store' : St
   pub reopened : (told : Told) (kept : Kept) (count : ℕ) → store'.frames ≡ Firm count → length store'.engine.systems ≡ 4 → held.Reopens g first s.world s.first s.made store store' disk disk' → told.reply ≡ Answered Done → told.formats ≡ plain → kept ≡ nothing_kept
       → IsTold g first (OfAll (Frames count)) s store' disk' kept told
   reopened told kept count firm actors x reply formats new =
-      let later : Script = record s { world = opened_world (start x.content) x.shelf; device = device_of g disk'; kept = nothing_kept; frames = count } in
+      let later : Script = record s { world = opened_world (start x.content) x.shelf; device = device_of g disk'; kept = nothing_kept; frames = count; progress = None } in
       let reopens : Reopens count s later = record {
         content = x.content;
         reads = subst (λ (d : Device). Reads d.seen x.content) (sym at.device) x.reads;
@@ -218,13 +222,14 @@ module _ {D : Type 0} (g : Ghosts D) (first : D) (s : Script) (store store' : St
           held = opened_held g first store' disk' x.content x.shelf s.first s.made actors x.held;
           device = refl;
           frames = firm;
+          progress = ap place_in (not_running store'.ground store'.running (start x.content) x.held.running refl);
         };
         start = refl;
         kept_is = sym new;
       }
 
-  pub not_reopened : (count : ℕ) (r : Refusal) → store'.frames ≡ store.frames → held.NotReopened g first s.world s.first s.made store store' disk disk' r → IsStopped g first (OfAll (Frames count)) s store' disk' r
-  not_reopened count r frames x =
+  pub not_reopened : (count : ℕ) (r : Refusal) → store'.frames ≡ store.frames → store'.running ≡ store.running → held.NotReopened g first s.world s.first s.made store store' disk disk' r → IsStopped g first (OfAll (Frames count)) s store' disk' r
+  not_reopened count r frames running x =
       let later : Script = record s { device = device_of g disk' } in
       let stops : NotReopened s r later = record {
         device = device_of g disk';
@@ -234,7 +239,7 @@ module _ {D : Type 0} (g : Ghosts D) (first : D) (s : Script) (store store' : St
         why = subst (λ (d : Device). RefusesReopening d (device_of g disk') r) (sym at.device) x.why;
         leaves = refl;
       } in
-      record { later = later; stops = stops; at = record { held = x.held; device = refl; frames = frames ∙ at.frames }; start = refl }
+      record { later = later; stops = stops; at = record { held = x.held; device = refl; frames = frames ∙ at.frames; progress = ap place_in running ∙ at.progress }; start = refl }
 
 -- ---- the lines together
 

@@ -29,6 +29,7 @@ use Rattle.engine.specs.declared.turning.Evicting.{Evicting}
 use Rattle.engine.specs.declared.turning.EvictStage.{EvictStage}
 use Rattle.engine.specs.declared.turning.EvictStage.TheVariants.{Find}
 use Rattle.engine.specs.Turning.{evicting_by, staged}
+use Rattle.engine_store.specs.Progress.{place_in}
 use Rattle.engine_store.specs.declared.store.Store.{Store}
 use Rattle.engine_store.specs.Calls.{StaysTold}
 use Rattle.engine_store.specs.Devices.{Device, KeepsCheckpoint, device_of}
@@ -42,8 +43,9 @@ use Rattle.script_run.specs.declared.kept.Kept.{Kept}
 use Rattle.script_run.specs.declared.told.Told.{Told}
 use Rattle.script_run.specs.Faults.{RepliesFault, TellsFaults}
 use Rattle.script_run.specs.Runs.{IsAt, IsCallLine, IsTold}
-use Rattle.script_run.specs.Scripts.{ActorReplies, Answers, Begins, EvictionEnds, EvictionRests, EvictionTurns, GoneBehind, IsLaterCall, IsUnbuilt, Opens, Refuses, RefusesInCall, Replies, RepliesBy, Script, Seen, StartsEvicting, actor_in, actor_of, caller, eviction_of, formats_in, number_of, system_in, with_evicting}
-use Rattle.script_run.proofs.GoneBehind.{gone, now}
+use Rattle.script_run.specs.Scripts.{ActorReplies, Answers, Begins, EvictionEnds, EvictionRests, EvictionTurns, GoneBehind, IsCheckpointCall, IsFree, IsLaterCall, IsUnbuilt, Opens, Refuses, RefusesInCall, Replies, RepliesBy, Script, Seen, StartsEvicting, actor_in, actor_of, caller, eviction_of, formats_in, number_of, system_in, with_evicting}
+use Rattle.script_run.specs.Checkpointing.{checkpointing_of}
+use Rattle.script_run.proofs.GoneBehind.{gone, now, replies_free}
 use Rattle.script_run.proofs.Telling.{same_told, stays_faults}
 
 -- ---- which call it is
@@ -55,22 +57,22 @@ pub record IsEviction (made : Call) : Type 0 where
   pub key : List ℕ
   pub is : made ≡ System number (system.Evict table key)
 
--- a whole call that is made and is none that may be started
-pub the_eviction : (made : Call) → IsUnbuilt made → (IsLaterCall made → ⊥) → IsEviction made
-the_eviction (Session session made) later here = absurd later
-the_eviction (System number (system.Evict table key)) later here = record { number = number; table = table; key = key; is = refl }
-the_eviction (System number (system.Create table formats)) later here = absurd (later tt)
-the_eviction (System number (system.SetStamps oldest stable)) later here = absurd (later tt)
-the_eviction (System number system.RollbackToStable) later here = absurd (here (λ none. none))
-the_eviction (System number system.StartCheckpoint) later here = absurd (here (λ none. none))
-the_eviction (System number system.StepCheckpoint) later here = absurd (here (λ none. none))
-the_eviction (System number system.FinishCheckpoint) later here = absurd (here (λ none. none))
-the_eviction (System number system.Close) later here = absurd (here (λ none. none))
+-- a call that is made, by no event and not as one of a checkpoint
+pub the_eviction : (made : Call) → IsUnbuilt made → (IsLaterCall made → ⊥) → (IsCheckpointCall made → ⊥) → IsEviction made
+the_eviction (Session session made) later here other = absurd later
+the_eviction (System number (system.Evict table key)) later here other = record { number = number; table = table; key = key; is = refl }
+the_eviction (System number (system.Create table formats)) later here other = absurd (later tt)
+the_eviction (System number (system.SetStamps oldest stable)) later here other = absurd (later tt)
+the_eviction (System number system.RollbackToStable) later here other = absurd (here (λ none. none))
+the_eviction (System number system.StartCheckpoint) later here other = absurd (other tt)
+the_eviction (System number system.StepCheckpoint) later here other = absurd (other tt)
+the_eviction (System number system.FinishCheckpoint) later here other = absurd (other tt)
+the_eviction (System number system.Close) later here other = absurd (here (λ none. none))
 
 -- ---- what it leaves
 
 -- nothing goes behind it
-same_behind : (s : Script) → GoneBehind s s
+pub same_behind : (s : Script) → GoneBehind s s
 same_behind s = inl (record {
   device = s.device;
   gone = record {
@@ -99,12 +101,12 @@ the_one None is = absurd cc
 the_one (Some x) is = (x, refl)
 
 module _ (s : Script) (formats : Formats) (reply : Reply) (later : Script) where
-  -- an actor without an eviction
-  pub whole_replies : (made : Call) → eviction_of (caller made) s.kept.evicting ≡ None → ActorReplies (Whole made) s formats reply later → Replies (Whole made) s formats reply later
-  whole_replies made none is = subst (λ (o : Option Evicting). RepliesBy o (Whole made) s formats reply later) (sym none) is
+  -- an actor of which no call is kept
+  pub whole_replies : (made : Call) → IsFree (caller made) s.kept → ActorReplies (Whole made) s formats reply later → Replies (Whole made) s formats reply later
+  whole_replies made none is = replies_free (Whole made) s formats reply later tt none is
 
-  pub start_replies : (made : Call) → eviction_of (caller made) s.kept.evicting ≡ None → ActorReplies (Start made) s formats reply later → Replies (Start made) s formats reply later
-  start_replies made none is = subst (λ (o : Option Evicting). RepliesBy o (Start made) s formats reply later) (sym none) is
+  pub start_replies : (made : Call) → IsFree (caller made) s.kept → ActorReplies (Start made) s formats reply later → Replies (Start made) s formats reply later
+  start_replies made none is = replies_free (Start made) s formats reply later tt none is
 
   -- one that has this
   module _ (number : ℕ) (x : Evicting) (there : evicting_by s.kept.evicting number ≡ Some x) where
@@ -112,18 +114,18 @@ module _ (s : Script) (formats : Formats) (reply : Reply) (later : Script) where
     its a is = ap (λ (b : Actor). eviction_of b s.kept.evicting) is ∙ there
 
     pub busy_whole : (made : Call) → caller made ≡ by.System number → RefusesInCall s reply later → Replies (Whole made) s formats reply later
-    busy_whole made is refuses = subst (λ (o : Option Evicting). RepliesBy o (Whole made) s formats reply later) (sym (its (caller made) is)) refuses
+    busy_whole made is refuses = subst (λ (o : Option Evicting). RepliesBy o (checkpointing_of (caller made) s.kept.checkpointing) (Whole made) s formats reply later) (sym (its (caller made) is)) refuses
 
     pub busy_start : (made : Call) → caller made ≡ by.System number → RefusesInCall s reply later → Replies (Start made) s formats reply later
-    busy_start made is refuses = subst (λ (o : Option Evicting). RepliesBy o (Start made) s formats reply later) (sym (its (caller made) is)) refuses
+    busy_start made is refuses = subst (λ (o : Option Evicting). RepliesBy o (checkpointing_of (caller made) s.kept.checkpointing) (Start made) s formats reply later) (sym (its (caller made) is)) refuses
 
     pub turn_replies : (who : LineActor) → actor_in who ≡ by.System number → EvictionTurns number x s reply later → Replies (Step who) s formats reply later
     turn_replies who is turns =
-        subst (λ (o : Option Evicting). RepliesBy o (Step who) s formats reply later) (sym (its (actor_in who) is)) (subst (λ (a : Actor). EvictionTurns (number_of a) x s reply later) (sym is) turns)
+        subst (λ (o : Option Evicting). RepliesBy o (checkpointing_of (actor_in who) s.kept.checkpointing) (Step who) s formats reply later) (sym (its (actor_in who) is)) (subst (λ (a : Actor). EvictionTurns (number_of a) x s reply later) (sym is) turns)
 
     pub rest_replies : (who : LineActor) → actor_in who ≡ by.System number → EvictionRests number s reply later → Replies (Finish who) s formats reply later
     rest_replies who is rests =
-        subst (λ (o : Option Evicting). RepliesBy o (Finish who) s formats reply later) (sym (its (actor_in who) is)) (subst (λ (a : Actor). EvictionRests (number_of a) s reply later) (sym is) rests)
+        subst (λ (o : Option Evicting). RepliesBy o (checkpointing_of (actor_in who) s.kept.checkpointing) (Finish who) s formats reply later) (sym (its (actor_in who) is)) (subst (λ (a : Actor). EvictionRests (number_of a) s reply later) (sym is) rests)
 
 -- ---- a whole call
 
@@ -131,8 +133,8 @@ module _ {D : Type 0} (g : Ghosts D) (first : D) (s : Script) (store store' : St
   abbrev pub seen_at : Seen s
   seen_at = record { engine = store.engine; records = (with_kept store.ground.kept s.world).records; stands = at.held.stands }
 
-  module _ (frames : store'.frames ≡ store.frames) (made : Call) (number : ℕ) (table key : List ℕ) (formats_are : told.formats ≡ formats_in s.world.machine made) (stored : stored_call told.formats made ≡ System number (system.Evict table key)) (answer : Answer (List ℕ))
-      (is : told.reply ≡ Answered answer) (none : eviction_of (caller made) s.kept.evicting ≡ None) (x : EvictsBeside g first s.world s.first s.made store store' disk disk' s.kept.evicting number table key None answer) where
+  module _ (frames : store'.frames ≡ store.frames) (running : store'.running ≡ store.running) (made : Call) (number : ℕ) (table key : List ℕ) (formats_are : told.formats ≡ formats_in s.world.machine made) (stored : stored_call told.formats made ≡ System number (system.Evict table key)) (answer : Answer (List ℕ))
+      (is : told.reply ≡ Answered answer) (none : IsFree (caller made) s.kept) (x : EvictsBeside g first s.world s.first s.made store store' disk disk' s.kept.evicting number table key None answer) where
     abbrev later : Script
     later = now g first s store store' disk disk' at.device x.next x.room
 
@@ -141,7 +143,7 @@ module _ {D : Type 0} (g : Ghosts D) (first : D) (s : Script) (store store' : St
       later = later;
       replies = (
         later,
-        whole_replies s told.formats told.reply later made none (inr (record {
+        whole_replies s told.formats told.reply later made none (inr (inl (record {
           number = number;
           table = table;
           key = key;
@@ -157,13 +159,14 @@ module _ {D : Type 0} (g : Ghosts D) (first : D) (s : Script) (store store' : St
           keeps = λ up. subst (λ (d : Device). KeepsCheckpoint d (device_of g disk')) (sym at.device) (x.keeps up);
           told = is;
           gone = gone g first s store store' disk disk' at.device x.next x.room;
-        })),
+        }))),
         same_behind later,
       );
       at = record {
         held = x.room.held;
         device = refl;
         frames = frames ∙ at.frames;
+        progress = ap place_in running ∙ at.progress;
       };
       start = refl;
       kept_is = refl;
@@ -171,13 +174,13 @@ module _ {D : Type 0} (g : Ghosts D) (first : D) (s : Script) (store store' : St
 
 -- for want of memory nothing was made of it
 module _ {D : Type 0} (g : Ghosts D) (first : D) (s : Script) (store : Store) (disk : D) (at : IsAt g first store disk s) (told : Told) where
-  pub evict_short : (made : Call) → IsEviction made → eviction_of (caller made) s.kept.evicting ≡ None → told.reply ≡ Answered (Refused NoMemory) → IsTold g first (Whole made) s store disk s.kept told
+  pub evict_short : (made : Call) → IsEviction made → IsFree (caller made) s.kept → told.reply ≡ Answered (Refused NoMemory) → IsTold g first (Whole made) s store disk s.kept told
   evict_short made e none is = record { later = s; replies = (s, whole_replies s told.formats told.reply s made none (inl (short made e)), same_behind s); at = at; start = refl; kept_is = refl }
     where
       short : (made : Call) → IsEviction made → Opens (caller made) s.world (λ w. Answers made s told.formats told.reply s w ⊎ Refuses NoMemory s w told.reply s) (λ r w. Refuses r s w told.reply s)
       short made e = subst (λ (c : Call). Opens (caller c) s.world (λ w. Answers c s told.formats told.reply s w ⊎ Refuses NoMemory s w told.reply s) (λ r w. Refuses r s w told.reply s)) (sym e.is) (inl (inr (is, refl)))
 
-  pub start_short : (made : Call) → IsEviction made → eviction_of (caller made) s.kept.evicting ≡ None → told.reply ≡ Answered (Refused NoMemory) → IsTold g first (Start made) s store disk s.kept told
+  pub start_short : (made : Call) → IsEviction made → IsFree (caller made) s.kept → told.reply ≡ Answered (Refused NoMemory) → IsTold g first (Start made) s store disk s.kept told
   start_short made e none is = record { later = s; replies = (s, start_replies s told.formats told.reply s made none (inl (short made e)), same_behind s); at = at; start = refl; kept_is = refl }
     where
       short : (made : Call) → IsEviction made → Opens (caller made) s.world (λ w. Begins made s told.formats told.reply s w ⊎ Refuses NoMemory s w told.reply s) (λ r w. Refuses r s w told.reply s)
@@ -186,12 +189,12 @@ module _ {D : Type 0} (g : Ghosts D) (first : D) (s : Script) (store : Store) (d
   -- ---- by steps
 
   -- it begins, or its actor has another call
-  pub start_told : (made : Call) (number : ℕ) (table key : List ℕ) (later : Script) (kept : Kept) → told.formats ≡ formats_in s.world.machine made → stored_call told.formats made ≡ System number (system.Evict table key) → eviction_of (caller made) s.kept.evicting ≡ None
+  pub start_told : (made : Call) (number : ℕ) (table key : List ℕ) (later : Script) (kept : Kept) → told.formats ≡ formats_in s.world.machine made → stored_call told.formats made ≡ System number (system.Evict table key) → IsFree (caller made) s.kept
       → StartsEvicting (slice_index_or s.world.systems number None) s number table key told.reply later → later ≡ with_evicting s later.kept.evicting → later.kept ≡ kept → IsTold g first (Start made) s store disk kept told
   start_told made number table key later kept formats_are stored none starts is kept_is = record {
     later = later;
-    replies = (later, start_replies s told.formats told.reply later made none (inr (record { number = number; table = table; key = key; formats_are = formats_are; is = stored; starts = starts })), same_behind later);
-    at = subst (λ (t : Script). IsAt g first store disk t) (sym is) (record { held = at.held; device = at.device; frames = at.frames });
+    replies = (later, start_replies s told.formats told.reply later made none (inr (inl (record { number = number; table = table; key = key; formats_are = formats_are; is = stored; starts = starts }))), same_behind later);
+    at = subst (λ (t : Script). IsAt g first store disk t) (sym is) (record { held = at.held; device = at.device; frames = at.frames; progress = at.progress });
     start = ap (λ (t : Script). t.first) is;
     kept_is = kept_is;
   }
@@ -215,13 +218,13 @@ pub start_free : (o : Option Asked) (s later : Script) (number : ℕ) (table key
 start_free None s later number table key reply is told leaves = (told, leaves)
 start_free (Some other) s later number table key reply is told leaves = absurd cc
 
-module _ {D : Type 0} (g : Ghosts D) (first : D) (s : Script) (store store' : Store) (disk disk' : D) (at : IsAt g first store disk s) (told : Told) (frames : store'.frames ≡ store.frames) (number : ℕ) where
+module _ {D : Type 0} (g : Ghosts D) (first : D) (s : Script) (store store' : Store) (disk disk' : D) (at : IsAt g first store disk s) (told : Told) (frames : store'.frames ≡ store.frames) (running : store'.running ≡ store.running) (number : ℕ) where
   -- a step behind which it goes on
   pub goes_told : (x : Evicting) → evicting_by s.kept.evicting number ≡ Some x → (who : LineActor) → actor_in who ≡ by.System number → (next : EvictStage) → store' ≡ store → disk' ≡ disk
       → ((w : World) → Stands store.engine w → GoesTo store.engine w.machine s.kept.evicting number x.table x.key x.stage next) → told.reply ≡ More → IsTold g first (Step who) s store' disk' (record s.kept { evicting = staged s.kept.evicting number next }) told
   goes_told x there who is next same here goes reply =
       let later = with_evicting s (staged s.kept.evicting number next) in
-      let at_later : IsAt g first store disk later = record { held = at.held; device = at.device; frames = at.frames } in
+      let at_later : IsAt g first store disk later = record { held = at.held; device = at.device; frames = at.frames; progress = at.progress } in
       record {
         later = later;
         replies = (
@@ -265,6 +268,7 @@ module _ {D : Type 0} (g : Ghosts D) (first : D) (s : Script) (store store' : St
       held = y.room.held;
       device = refl;
       frames = frames ∙ at.frames;
+      progress = ap place_in running ∙ at.progress;
     }
 
     -- behind others

@@ -1,5 +1,5 @@
 -- What goes behind the line of an actor.
-use Rattle.std.specs.Prelude.{◌≡◌, Option, None}
+use Rattle.std.specs.Prelude.{◌≡◌, Option, None, Some}
 use Rattle.std.proofs.Common.{inl, inr, refl, sym, ap, subst, ◌∙◌}
 use Rattle.failure.specs.Counts.{Rose}
 use Rattle.disk_model.specs.declared.disk.Disk.{Ghosts}
@@ -14,7 +14,9 @@ use Rattle.engine_store.specs.Devices.{Device, IsLater, KeepsCheckpoint, device_
 use Rattle.engine_store.specs.Held.{IsHeld}
 use Rattle.engine_store.specs.Room.{RoomMade, RoomOf}
 use Rattle.script_run.specs.Runs.{IsOfActor}
-use Rattle.script_run.specs.Scripts.{ActorReplies, Behind, GoneBehind, LeavesGone, Replies, RepliesBy, Script, actor_of, eviction_of}
+use Rattle.script_run.specs.Scripts.{ActorReplies, Behind, CheckpointCallReplies, GoneBehind, IsFree, LeavesGone, Replies, RepliesBy, RepliesTo, Script, actor_of, eviction_of, number_of}
+use Rattle.script_run.specs.declared.checkpointing.CheckpointStage.{CheckpointStage}
+use Rattle.script_run.specs.Checkpointing.{checkpointing_of}
 
 -- ---- a line of an actor
 
@@ -25,13 +27,45 @@ behind_actor (Step who) s later now gone = gone
 behind_actor (Finish who) s later now gone = gone
 behind_actor (Control asked) s later now gone = absurd now
 
--- its actor has no eviction
-pub replies_free : (asked : Line) (s : Script) (formats : Formats) (reply : Reply) (later : Script) → IsOfActor asked → eviction_of (actor_of asked) s.kept.evicting ≡ None → ActorReplies asked s formats reply later → Replies asked s formats reply later
-replies_free (Whole made) s formats reply later now none is = subst (λ (o : Option Evicting). RepliesBy o (Whole made) s formats reply later) (sym none) is
-replies_free (Start made) s formats reply later now none is = subst (λ (o : Option Evicting). RepliesBy o (Start made) s formats reply later) (sym none) is
-replies_free (Step who) s formats reply later now none is = subst (λ (o : Option Evicting). RepliesBy o (Step who) s formats reply later) (sym none) is
-replies_free (Finish who) s formats reply later now none is = subst (λ (o : Option Evicting). RepliesBy o (Finish who) s formats reply later) (sym none) is
+-- a line of an actor
+abbrev pub IsActors : Line → Type 0
+IsActors (Control asked) = ⊥
+IsActors _ = Unit {0}
+
+pub actors_line : (asked : Line) → IsOfActor asked → IsActors asked
+actors_line (Whole made) now = tt
+actors_line (Start made) now = tt
+actors_line (Step who) now = tt
+actors_line (Finish who) now = tt
+actors_line (Control asked) now = absurd now
+
+module _ (s : Script) (formats : Formats) (reply : Reply) (later : Script) where
+  freely : (asked : Line) → IsFree (actor_of asked) s.kept → ActorReplies asked s formats reply later → RepliesTo asked s formats reply later
+  freely asked none is =
+      subst (λ (o : Option Evicting). RepliesBy o (checkpointing_of (actor_of asked) s.kept.checkpointing) asked s formats reply later) (sym none.0)
+      (subst (λ (o : Option CheckpointStage). RepliesBy None o asked s formats reply later) (sym none.1) is)
+
+  called : (asked : Line) (at : CheckpointStage) → eviction_of (actor_of asked) s.kept.evicting ≡ None → checkpointing_of (actor_of asked) s.kept.checkpointing ≡ Some at → CheckpointCallReplies asked (number_of (actor_of asked)) at s reply later → RepliesTo asked s formats reply later
+  called asked at none there is =
+      subst (λ (o : Option Evicting). RepliesBy o (checkpointing_of (actor_of asked) s.kept.checkpointing) asked s formats reply later) (sym none)
+      (subst (λ (o : Option CheckpointStage). RepliesBy None o asked s formats reply later) (sym there) is)
+
+-- no call of its actor is kept
+pub replies_free : (asked : Line) (s : Script) (formats : Formats) (reply : Reply) (later : Script) → IsActors asked → IsFree (actor_of asked) s.kept → ActorReplies asked s formats reply later → Replies asked s formats reply later
+replies_free (Whole made) s formats reply later now none is = freely s formats reply later (Whole made) none is
+replies_free (Start made) s formats reply later now none is = freely s formats reply later (Start made) none is
+replies_free (Step who) s formats reply later now none is = freely s formats reply later (Step who) none is
+replies_free (Finish who) s formats reply later now none is = freely s formats reply later (Finish who) none is
 replies_free (Control asked) s formats reply later now none is = absurd now
+
+-- its actor has a call of a checkpoint at this stage
+pub replies_called : (asked : Line) (s : Script) (formats : Formats) (reply : Reply) (later : Script) (at : CheckpointStage) → IsActors asked → eviction_of (actor_of asked) s.kept.evicting ≡ None → checkpointing_of (actor_of asked) s.kept.checkpointing ≡ Some at
+    → CheckpointCallReplies asked (number_of (actor_of asked)) at s reply later → Replies asked s formats reply later
+replies_called (Whole made) s formats reply later at now none there is = called s formats reply later (Whole made) at none there is
+replies_called (Start made) s formats reply later at now none there is = called s formats reply later (Start made) at none there is
+replies_called (Step who) s formats reply later at now none there is = called s formats reply later (Step who) at none there is
+replies_called (Finish who) s formats reply later at now none there is = called s formats reply later (Finish who) at none there is
+replies_called (Control asked) s formats reply later at now none there is = absurd now
 
 module _ {D : Type 0} (g : Ghosts D) (first : D) (s : Script) (store store' : Store) (disk disk' : D) (there : s.device ≡ device_of g disk) where
   -- the store and its disk stand for what it leaves
@@ -43,6 +77,7 @@ module _ {D : Type 0} (g : Ghosts D) (first : D) (s : Script) (store store' : St
     pub start : later.first ≡ s.first
     pub kept : later.kept ≡ s.kept
     pub frames : later.frames ≡ s.frames
+    pub progress : later.progress ≡ s.progress
 
   module _ (next : Machine) (x : RoomMade g first s.world s.first s.made store store' disk disk' next) where
     abbrev pub now : Script
@@ -59,7 +94,7 @@ module _ {D : Type 0} (g : Ghosts D) (first : D) (s : Script) (store store' : St
     }
 
     is_behind : GoneBehind s now → IsBehind
-    is_behind went = record { later = now; gone = went; held = x.held; device = refl; start = refl; kept = refl; frames = refl }
+    is_behind went = record { later = now; gone = went; held = x.held; device = refl; start = refl; kept = refl; frames = refl; progress = refl }
 
   pub gone_behind : RoomOf g first s.world s.first s.made store store' disk disk' → IsBehind
   gone_behind (inl up) =

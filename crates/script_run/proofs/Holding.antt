@@ -26,10 +26,11 @@ use Rattle.script_run.specs.declared.one_line.Printed.{Printed}
 use Rattle.script_run.specs.declared.one_line.Stop.{Stop}
 use Rattle.script_run.specs.declared.one_line.Stop.TheVariants as stop
 use Rattle.engine_store.specs.Opened.{IsReady}
+use Rattle.engine_store.specs.Progress.{place_in}
 use Rattle.script_run.specs.Runs.{IsAt, IsCallLine, IsOfActor, IsReplied, IsTold, LineMade}
-use Rattle.script_run.specs.Scripts.{IsLater, Script, actor_of, eviction_of, listed, refusals_in}
+use Rattle.script_run.specs.Scripts.{IsFree, IsLater, Script, actor_of, listed, refusals_in}
 use Rattle.engine_store.proofs.OtherRecords.{kept_more}
-use Rattle.script_run.proofs.GoneBehind.{behind_actor, gone_behind, replies_free}
+use Rattle.script_run.proofs.GoneBehind.{actors_line, behind_actor, gone_behind, replies_free}
 
 -- ---- a store that keeps what it is held to
 
@@ -69,17 +70,18 @@ of_actor (Finish who) now whole start = tt
 of_actor (Control asked) now whole start = absurd now
 
 -- behind the line leaves may have left their frames
-pub actor_told : {D : Type 0} (g : Ghosts D) (first : D) (store middle store' : Store) (disk between disk' : D) (asked : Line) (s : Script) (told : LineTold) (kept : Kept) → IsOfActor asked → eviction_of (actor_of asked) s.kept.evicting ≡ None → IsAt g first store disk s
-    → (r : IsReplied g first s middle between asked kept told) → store'.frames ≡ middle.frames → RoomOf g first r.later.world r.later.first r.later.made middle store' between disk' → IsTold g first asked s store' disk' kept told
-actor_told g first store middle store' disk between disk' asked s told kept now none at r frames room =
+pub actor_told : {D : Type 0} (g : Ghosts D) (first : D) (store middle store' : Store) (disk between disk' : D) (asked : Line) (s : Script) (told : LineTold) (kept : Kept) → IsOfActor asked → IsFree (actor_of asked) s.kept → IsAt g first store disk s
+    → (r : IsReplied g first s middle between asked kept told) → store'.frames ≡ middle.frames → store'.running ≡ middle.running → RoomOf g first r.later.world r.later.first r.later.made middle store' between disk' → IsTold g first asked s store' disk' kept told
+actor_told g first store middle store' disk between disk' asked s told kept now none at r frames running room =
     let behind = gone_behind g first r.later middle store' between disk' r.device room in
     record {
       later = behind.later;
-      replies = (r.later, replies_free asked s told.formats told.reply r.later now none r.is, behind_actor asked r.later behind.later now behind.gone);
+      replies = (r.later, replies_free asked s told.formats told.reply r.later (actors_line asked now) none r.is, behind_actor asked r.later behind.later now behind.gone);
       at = record {
         held = behind.held;
         device = behind.device;
         frames = frames ∙ (r.frames ∙ ap Firm (sym behind.frames));
+        progress = ap place_in running ∙ (r.progress ∙ sym behind.progress);
       };
       start = behind.start ∙ r.start;
       kept_is = behind.kept ∙ r.kept_is;

@@ -6,7 +6,9 @@ pub mod Replying
 pub mod Telling
 pub mod GoneBehind
 pub mod EvictingLines
+pub mod CheckpointLines
 pub mod Holding
+pub mod NoneRuns
 pub mod Devices
 pub mod Scripting
 pub mod Turning

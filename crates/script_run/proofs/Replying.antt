@@ -99,14 +99,14 @@ started Caused w made told next (inr (session, r, go, more, caused, out)) = absu
 module _ {D : Type 0} (g : Ghosts D) (first : D) (s : Script) (store : Store) (disk : D) where
   -- what is so of what it leaves may be more
   pub left-more : (kept : Kept) (IsSo IsMore : Script → Type 0) → ((later : Script) → IsSo later → IsMore later) → IsLeftSo g first s store disk kept IsSo → IsLeftSo g first s store disk kept IsMore
-  left-more kept IsSo IsMore more x = record { later = x.later; is = more x.later x.is; held = x.held; device = x.device; frames = x.frames; start = x.start; kept_is = x.kept_is }
+  left-more kept IsSo IsMore more x = record { later = x.later; is = more x.later x.is; held = x.held; device = x.device; frames = x.frames; progress = x.progress; start = x.start; kept_is = x.kept_is }
 
   -- the actor could not be opened
   pub turned-away : (GoesSo : Script → World → Type 0) (who : Actor) (r : Refusal) (reply : Reply) → reply ≡ Answered (Refused r) → OpensAs who s.world (Err r) (λ v. StandsAt g first store disk s v)
       → IsLeftSo g first s store disk s.kept (λ later. Opens who s.world (GoesSo later) (λ but v. Refuses but s v reply later))
   turned-away GoesSo who r reply told (n, less, why, at) =
-      record { later = record s { world = opened_more n s.world }; is = inr (n, r, less, why, (told, refl)); held = at.held; device = at.device; frames = at.frames; start = refl; kept_is = refl }
+      record { later = record s { world = opened_more n s.world }; is = inr (n, r, less, why, (told, refl)); held = at.held; device = at.device; frames = at.frames; progress = at.progress; start = refl; kept_is = refl }
 
   -- memory was short for the call of an actor that is there
   pub short : (GoesSo : Script → Type 0) (w : World) (reply : Reply) → reply ≡ Answered (Refused NoMemory) → StandsAt g first store disk s w → IsLeftSo g first s store disk s.kept (λ later. GoesSo later ⊎ Refuses NoMemory s w reply later)
-  short GoesSo w reply told at = record { later = record s { world = w }; is = inr (told, refl); held = at.held; device = at.device; frames = at.frames; start = refl; kept_is = refl }
+  short GoesSo w reply told at = record { later = record s { world = w }; is = inr (told, refl); held = at.held; device = at.device; frames = at.frames; progress = at.progress; start = refl; kept_is = refl }

@@ -16,9 +16,11 @@ use Rattle.kv_model.specs.Machine.{Completed}
 use Rattle.engine_world.specs.Worlds.{World}
 use Rattle.engine_store.specs.declared.frames.Frames.{Frames}
 use Rattle.engine_store.specs.declared.frames.Frames.TheVariants.{Firm}
+use Rattle.engine_store.specs.declared.progress.Progress.{Progress}
 use Rattle.engine_store.specs.declared.store.Store.{Store}
 use Rattle.engine_store.specs.Devices.{Installed, device_of}
 use Rattle.engine_store.specs.Held.{IsHeld}
+use Rattle.engine_store.specs.Progress.{place_in}
 use Rattle.script_run.specs.declared.script.End.TheVariants.{Stopped}
 use Rattle.script_run.specs.declared.script.Place.{Place}
 use Rattle.script_run.specs.declared.script.ScriptRun.{ScriptRun}
@@ -206,7 +208,7 @@ frames-held g start disk store frames w first made held = record {
   past = held.past;
 }
 
-module _ {D : Type 0} (g : Ghosts D) (disk : D) (w : World) (frames : ℕ) where
+module _ {D : Type 0} (g : Ghosts D) (disk : D) (w : World) (frames : ℕ) (progress : Option Progress) where
   -- of a run that is this far, from the store of this world
   pub record IsDone {S K : Type 0} (source : SourceGhosts S) (sink : SinkGhosts K) (input input' : S) (out out' : K) (held : Held) (place : Place) (store : Store) (now : D) : Type 0 where
     pub given : List ℕ
@@ -216,7 +218,7 @@ module _ {D : Type 0} (g : Ghosts D) (disk : D) (w : World) (frames : ℕ) where
     pub text : List ℕ
     pub refusals : List Refusal
     pub script : Script
-    pub done : DoneLines texts 1 0 (fresh w (device_of g disk) frames) place.line place.used script text refusals
+    pub done : DoneLines texts 1 0 (fresh w (device_of g disk) frames progress) place.line place.used script text refusals
     pub took : Took (sink.written out) (sink.written out') text
     pub met : place.met ≡ first_of (filter counts refusals)
     pub at : IsAt g disk store now script
@@ -224,24 +226,24 @@ module _ {D : Type 0} (g : Ghosts D) (disk : D) (w : World) (frames : ℕ) where
     pub kept : script.kept ≡ place.kept
 
   -- before the first line
-  pub first-at : (store : Store) → store.frames ≡ Firm frames → IsHeld g disk store disk w w.machine.completed [] → IsAt g disk store disk (fresh w (device_of g disk) frames)
-  first-at store firm held = record { held = held; device = refl; frames = firm }
+  pub first-at : (store : Store) → store.frames ≡ Firm frames → place_in store.running ≡ progress → IsHeld g disk store disk w w.machine.completed [] → IsAt g disk store disk (fresh w (device_of g disk) frames progress)
+  first-at store firm place held = record { held = held; device = refl; frames = firm; progress = place }
 
-  pub none-done : {S K : Type 0} (source : SourceGhosts S) (sink : SinkGhosts K) (input : S) (out : K) (held : Held) (place : Place) (store : Store) → store.frames ≡ Firm frames
+  pub none-done : {S K : Type 0} (source : SourceGhosts S) (sink : SinkGhosts K) (input : S) (out : K) (held : Held) (place : Place) (store : Store) → store.frames ≡ Firm frames → place_in store.running ≡ progress
       → held.behind ≡ [] → place.line ≡ 1 → place.used ≡ 0 → place.kept ≡ nothing_kept → place.met ≡ None → IsHeld g disk store disk w w.machine.completed []
       → IsDone source sink input input out out held place store disk
-  none-done source sink input out held place store firm empty line used formats met holds = record {
+  none-done source sink input out held place store firm running empty line used formats met holds = record {
     given = [];
     gave = gave_none (source.left input);
     texts = [];
     lines = sym empty;
     text = [];
     refusals = [];
-    script = fresh w (device_of g disk) frames;
+    script = fresh w (device_of g disk) frames progress;
     done = (line, used, refl, refl, refl);
     took = took_none (sink.written out);
     met = met;
-    at = first-at store firm holds;
+    at = first-at store firm running holds;
     start = refl;
     kept = sym formats;
   }
@@ -252,7 +254,7 @@ module _ {D : Type 0} (g : Ghosts D) (disk : D) (w : World) (frames : ℕ) where
       → TurnGoesOn g disk store' now' source sink input' input'' out' out'' held held' place next d.script → IsDone source sink input input'' out out'' held' next store' now'
   more-done source sink input input' input'' out out' out'' held held' place next store store' now now' stays d t =
       let l = t.line in
-      let begin = fresh w (device_of g disk) frames in
+      let begin = fresh w (device_of g disk) frames progress in
       let all = done-more d.texts 1 0 begin place.line place.used d.script d.text d.refusals held'.line l.printed l.refusal l.later d.done l.done in
       record {
         given = d.given ++ t.given;
@@ -275,7 +277,7 @@ module _ {D : Type 0} (g : Ghosts D) (disk : D) (w : World) (frames : ℕ) where
   pub run-done : {S K : Type 0} (source : SourceGhosts S) (sink : SinkGhosts K) (input input' input'' : S) (out out' out'' : K) (held : Held) (place next : Place) (store store' : Store) (now now' : D) (told : ScriptRun)
       → source.fault_count input ≤ source.fault_count input' → sink.fault_count out ≤ sink.fault_count out'
       → (d : IsDone source sink input input' out out' held place store now) → TurnEnds g disk store' now' source sink input' input'' out' out'' held place next d.script told.end → told.met ≡ next.met
-      → IsRun g (outside source sink input input'' out out'') (source.left input) (source.left input'') (sink.written out) (sink.written out'') w disk now' frames store' told
+      → IsRun g (outside source sink input input'' out out'') (source.left input) (source.left input'') (sink.written out) (sink.written out'') w disk now' frames progress store' told
   run-done source sink input input' input'' out out' out'' held place next store store' now now' told reads writes d t met =
       let o = outside source sink input input'' out out'' in
       let own = outside source sink input' input'' out' out'' in
@@ -284,7 +286,7 @@ module _ {D : Type 0} (g : Ghosts D) (disk : D) (w : World) (frames : ℕ) where
         ended = λ ended. ended;
         output = λ rose. rose-before (sink.fault_count out) (sink.fault_count out') (sink.fault_count out'') writes rose;
       } in
-      let begin = fresh w (device_of g disk) frames in
+      let begin = fresh w (device_of g disk) frames progress in
       let ran : Ran = behind d.text d.refusals t.run.ran in
       let runs : RunsLines o 1 0 (d.texts ++ t.texts) begin ran =
       done-runs o d.texts 1 0 begin place.line place.used d.script d.text d.refusals t.texts t.run.ran d.done (runs-wider own o place.line place.used t.texts d.script t.run.ran wide t.run.runs) in
@@ -309,7 +311,7 @@ module _ {D : Type 0} (g : Ghosts D) (disk : D) (w : World) (frames : ℕ) where
 
   -- there was no memory to begin with
   pub none-run : {S K : Type 0} (source : SourceGhosts S) (sink : SinkGhosts K) (input : S) (out : K) (store : Store) (told : ScriptRun) → told.end ≡ Stopped NoMemory → told.met ≡ None → IsHeld g disk store disk w w.machine.completed []
-      → IsRun g (outside source sink input input out out) (source.left input) (source.left input) (sink.written out) (sink.written out) w disk disk frames store told
+      → IsRun g (outside source sink input input out out) (source.left input) (source.left input) (sink.written out) (sink.written out) w disk disk frames progress store told
   none-run source sink input out store told end met holds = record {
     given = [];
     gave = gave_none (source.left input);
@@ -318,7 +320,7 @@ module _ {D : Type 0} (g : Ghosts D) (disk : D) (w : World) (frames : ℕ) where
     ended = false;
     at_end = λ is. absurd cc;
     lines = refl;
-    ran = ends (Stopped NoMemory) (fresh w (device_of g disk) frames);
+    ran = ends (Stopped NoMemory) (fresh w (device_of g disk) frames progress);
     runs = inr (inr refl);
     took = took_none (sink.written out);
     end_is = end;

@@ -3,3 +3,4 @@ pub mod Scripts
 pub mod Faults
 pub mod Runs
 pub mod Turns
+pub mod Checkpointing

@@ -11,6 +11,8 @@ use Rattle.engine_store.specs.declared.store.Store.{Store}
 use Rattle.engine_store.specs.Calls.{MayAnswerOn}
 use Rattle.engine_store.specs.Devices.{device_of}
 use Rattle.engine_store.specs.Held.{IsHeld}
+use Rattle.engine_store.specs.Progress.{place_in}
+use Rattle.engine_store.specs.declared.progress.Progress.{Progress}
 use Rattle.wt_io.specs.Streams.{Gave, Took}
 use Rattle.wt_calls.specs.declared.call.Call.{Call}
 use Rattle.wt_calls.specs.declared.call.Call.TheVariants as call
@@ -29,15 +31,18 @@ use Rattle.engine.specs.declared.step.Actor.TheVariants as by
 use Rattle.script_run.specs.declared.one_line.Printed.{Printed}
 use Rattle.script_run.specs.declared.one_line.Stop.{Stop}
 use Rattle.script_run.specs.declared.one_line.Stop.TheVariants as stop
+use Rattle.script_run.specs.declared.checkpointing.CheckpointStage.{CheckpointStage}
+use Rattle.script_run.specs.declared.checkpointing.CheckpointTurn.{CheckpointTurn}
 use Rattle.script_run.specs.declared.kept.Kept.{Kept}
 use Rattle.script_run.specs.declared.told.Told.{Told}
 use Rattle.script_run.specs.declared.script.End.TheVariants.{Through, Stopped}
 use Rattle.script_run.specs.declared.script.ScriptRun.{ScriptRun}
+use Rattle.script_run.specs.Checkpointing.{asked_in}
 use Rattle.script_run.specs.Faults.{RepliesFault, TellsFaults}
 use Rattle.script_run.specs.Lines.{AreLines}
 use Rattle.wt_io.specs.declared.streams.Source.{Ghosts as SourceGhosts}
 use Rattle.wt_io.specs.declared.streams.Sink.{Ghosts as SinkGhosts}
-use Rattle.script_run.specs.Scripts.{outside, ActorReplies, Answers, Begins, CauseOn, Ends, Goes, Outside, Ran, Refuses, RunsLine, RunsLines, Script, IsLater, IsLaterCall, IsUnbuilt, NoSession, StopsBy, actor_in, caller, counts, first_of, fresh, listed, missing, opened_more, refusals_in}
+use Rattle.script_run.specs.Scripts.{outside, ActorReplies, Answers, Begins, CauseOn, CheckpointCallEnds, CheckpointCallTurns, Ends, Goes, Outside, Ran, Refuses, RunsCheckpoint, RunsLine, RunsLines, Script, IsLater, IsLaterCall, IsUnbuilt, NoSession, StopsBy, actor_in, caller, counts, first_of, fresh, listed, missing, opened_more, plain, refusals_in}
 
 -- one of the four actors of the system, or any session
 abbrev pub IsKnown : Actor → Type 0
@@ -93,6 +98,7 @@ pub record IsAt {D : Type 0} (g : Ghosts D) (first : D) (store : Store) (disk : 
   pub held : IsHeld g first store disk s.world s.first s.made
   pub device : s.device ≡ device_of g disk
   pub frames : store.frames ≡ Firm s.frames
+  pub progress : place_in store.running ≡ s.progress
 
 -- ---- of an actor, in a run that began on the first disk
 
@@ -104,6 +110,7 @@ module _ {D : Type 0} (g : Ghosts D) (first : D) (s : Script) (store : Store) (d
     pub held : IsHeld g first store disk later.world later.first later.made
     pub device : later.device ≡ device_of g disk
     pub frames : store.frames ≡ Firm later.frames
+    pub progress : place_in store.running ≡ later.progress
     pub start : later.first ≡ s.first
     pub kept_is : later.kept ≡ kept
 
@@ -135,6 +142,7 @@ pub record StandsAt {D : Type 0} (g : Ghosts D) (first : D) (store : Store) (dis
   pub held : IsHeld g first store disk w s.first s.made
   pub device : s.device ≡ device_of g disk
   pub frames : store.frames ≡ Firm s.frames
+  pub progress : place_in store.running ≡ s.progress
 
 -- on an honest disk, of each script and world for which they stand, and of each script
 abbrev pub StandingIn : {D : Type 0} → Ghosts D → Store → D → (D → Script → World → Type 0) → Type 0
@@ -162,6 +170,31 @@ module _ {D : Type 0} (g : Ghosts D) (first : D) where
   pub record IsTold (asked : Line) (s : Script) (store : Store) (disk : D) (kept : Kept) (told : Told) : Type 0 where
     pub later : Script
     pub replies : RunsLine asked s told.formats told.reply later
+    pub at : IsAt g first store disk later
+    pub start : later.first ≡ s.first
+    pub kept_is : later.kept ≡ kept
+
+  -- what was asked of a checkpoint was made so
+  pub record IsMadeSo (turn : CheckpointTurn) (s : Script) (store : Store) (disk : D) (told : Told) : Type 0 where
+    pub later : Script
+    pub runs : RunsCheckpoint (asked_in turn) s told.reply later
+    pub formats : told.formats ≡ plain
+    pub at : IsAt g first store disk later
+    pub start : later.first ≡ s.first
+    pub kept_is : later.kept ≡ s.kept
+
+  -- the steps that are left of such a call were made so
+  pub record EndsSo (number : ℕ) (stage : CheckpointStage) (s : Script) (store : Store) (disk : D) (kept : Kept) (told : Told) : Type 0 where
+    pub later : Script
+    pub ends : CheckpointCallEnds number stage s told.reply later
+    pub at : IsAt g first store disk later
+    pub start : later.first ≡ s.first
+    pub kept_is : later.kept ≡ kept
+
+  -- and one step
+  pub record TurnsSo (number : ℕ) (stage : CheckpointStage) (s : Script) (store : Store) (disk : D) (kept : Kept) (told : Told) : Type 0 where
+    pub later : Script
+    pub turns : CheckpointCallTurns number stage s told.reply later
     pub at : IsAt g first store disk later
     pub start : later.first ≡ s.first
     pub kept_is : later.kept ≡ kept
@@ -210,7 +243,7 @@ StopsDamaged at want found _ = ⊥
 -- ---- whole scripts
 
 -- A run of a script on an engine with so many frames and its device that stand for this world: what the input gave, the lines of that, and what they make.
-pub record IsRun {D : Type 0} (g : Ghosts D) (o : Outside) (left left' written written' : Option (List ℕ)) (w : World) (before after : D) (frames : ℕ) (s : Store) (told : ScriptRun) : Type 0 where
+pub record IsRun {D : Type 0} (g : Ghosts D) (o : Outside) (left left' written written' : Option (List ℕ)) (w : World) (before after : D) (frames : ℕ) (progress : Option Progress) (s : Store) (told : ScriptRun) : Type 0 where
   pub given : List ℕ
   pub gave : Gave left left' given
   pub texts : List (List ℕ)
@@ -220,7 +253,7 @@ pub record IsRun {D : Type 0} (g : Ghosts D) (o : Outside) (left left' written w
   pub at_end : IsTrue ended → o.input_ended
   pub lines : AreLines ended given texts behind
   pub ran : Ran
-  pub runs : RunsLines o 1 0 texts (fresh w (device_of g before) frames) ran
+  pub runs : RunsLines o 1 0 texts (fresh w (device_of g before) frames progress) ran
   pub took : Took written written' ran.text
   pub end_is : told.end ≡ ran.end
   -- the first fault of the disk or want of memory that a line replied
@@ -232,9 +265,9 @@ pub record IsRun {D : Type 0} (g : Ghosts D) (o : Outside) (left left' written w
   pub held : IsHeld g before s after ran.last.world w.machine.completed ran.last.made
 
 -- the same of a disk and of streams, before and after
-abbrev pub IsRunOver : {D S K : Type 0} → Ghosts D → SourceGhosts S → SinkGhosts K → S → S → K → K → World → D → D → (frames : ℕ) → Store → ScriptRun → Type 0
-IsRunOver g s k input input_now out out_now w before after frames store told =
-    IsRun g (outside s k input input_now out out_now) (s.left input) (s.left input_now) (k.written out) (k.written out_now) w before after frames store told
+abbrev pub IsRunOver : {D S K : Type 0} → Ghosts D → SourceGhosts S → SinkGhosts K → S → S → K → K → World → D → D → (frames : ℕ) → Option Progress → Store → ScriptRun → Type 0
+IsRunOver g s k input input_now out out_now w before after frames progress store told =
+    IsRun g (outside s k input input_now out out_now) (s.left input) (s.left input_now) (k.written out) (k.written out_now) w before after frames progress store told
 
 -- the run met a fault of the disk
 abbrev pub MetFault : ScriptRun → Type 0

@@ -1,5 +1,5 @@
 -- What the lines of a script reply, what each leaves, and how a script ends.
-use Rattle.std.specs.Prelude.{◌≡◌, ◌⊎◌, ◌<◌, ◌≤◌, ◌+◌, ◌-◌, ◌||◌, ℕ, zero, suc, Bool, true, false, MatchBool, List, [], ◌∷◌, ◌++◌, length, take, replicate, slice_index_or, slice_set, Option, None, Some}
+use Rattle.std.specs.Prelude.{◌≡◌, ◌⊎◌, ◌<◌, ◌≤◌, ◌+◌, ◌-◌, ◌||◌, ℕ, zero, suc, Bool, true, false, MatchBool, List, [], ◌∷◌, ◌++◌, length, take, replicate, slice_index_or, slice_set, Option, None, Some, option_map}
 use Rattle.limits.specs.declared.TheConstants.{SESSIONS_MAX}
 use Rattle.failure.specs.Counts.{Rose}
 use Rattle.failure.specs.declared.Fault.{Fault}
@@ -16,8 +16,8 @@ use Rattle.wt_io.specs.Streams.{AtEnd}
 use Rattle.wt_io.specs.declared.streams.Source.{Ghosts as SourceGhosts}
 use Rattle.wt_io.specs.declared.streams.Sink.{Ghosts as SinkGhosts}
 use Rattle.kv_model.specs.History.{named, tables}
-use Rattle.kv_model.specs.Machine.{GoDown, Machine, Completed, after as after_event, of_some}
-use Rattle.kv_model.specs.Calls.{Call as Asked, rolled_back}
+use Rattle.kv_model.specs.Machine.{Checkpoint as RunningCheckpoint, CheckpointFinish, GoDown, Machine, Completed, after as after_event, of_some}
+use Rattle.kv_model.specs.Calls.{Call as Asked, CkptFinish, CkptStart, CkptStep, SystemAnswers, rolled_back}
 use Rattle.kv_model.specs.Content.{Content, OpensAs, start}
 use Rattle.kv_model.specs.Decisions.{is_there}
 use Rattle.kv_model.specs.Holds.{Member}
@@ -41,6 +41,7 @@ use Rattle.script_text.specs.Grammar.{IsLine}
 use Rattle.script_text.specs.Replies.{line_of_reply}
 use Rattle.script_text.specs.Stored.{table_of_items, stored_call}
 use Rattle.row_page.specs.Rows.{Row}
+use Rattle.tree_dir.specs.declared.leaf.Leaf.{Leaf}
 use Rattle.engine_world.specs.Stands.{Engine, Stands}
 use Rattle.engine_world.specs.Worlds.{Records, World}
 use Rattle.engine_world.specs.Systems.{checkpointed}
@@ -54,17 +55,24 @@ use Rattle.engine.specs.Turning.{evicting_by, found_in, staged}
 use Rattle.engine.specs.Runs.{MayStep, IsBuilt}
 use Rattle.engine.specs.Whole.{with_session_more}
 use Rattle.ckpt_step.specs.declared.lives.Lone.{Lone}
+use Rattle.engine_store.specs.declared.progress.Progress.{Progress}
 use Rattle.engine_store.specs.Answers.{CheckpointTakes, CloseTakes, Installs, IsLeft, RefusesReopening}
 use Rattle.engine_store.specs.Calls.{EndsBy, MayAnswerOn, MayStepOn}
 use Rattle.engine_store.specs.Devices.{Device, Installed, IsLater as IsLaterDevice, IsRead, KeepsCheckpoint, may_open_to}
 use Rattle.engine_store.specs.Beside.{IsCauseBeside}
 use Rattle.engine_store.specs.EvictCalls.{EvictAnswers}
 use Rattle.engine_store.specs.EvictSteps.{GoesTo, LeadsTo, TakesMemory, around_beside}
+use Rattle.engine_store.specs.Finishes.{IsFinishLeft, around_finish, around_start}
 use Rattle.engine_store.specs.Full.{IsFullAt}
+use Rattle.engine_store.specs.Progress.{around_step, first_place, has_left, left_of, passed}
+use Rattle.script_run.specs.declared.checkpointing.CheckpointStage.{CheckpointStage}
+use Rattle.script_run.specs.declared.checkpointing.CheckpointStage.TheVariants as stage
+use Rattle.script_run.specs.declared.checkpointing.CheckpointTurn.{CheckpointTurn}
 use Rattle.script_run.specs.declared.kept.Kept.{Kept}
 use Rattle.script_run.specs.declared.script.End.{End}
 use Rattle.script_run.specs.declared.script.End.TheVariants.{Through, Stopped, InputFailed, OutputFailed}
 use Rattle.script_run.specs.declared.script.TheConstants.{INPUT_MAX}
+use Rattle.script_run.specs.Checkpointing.{asked_in, checkpointing_by, checkpointing_of, finds_leaf, turn_of}
 
 -- between two lines
 pub record Script : Type 0 where
@@ -78,13 +86,15 @@ pub record Script : Type 0 where
   pub kept : Kept
   -- how many frames there are for leaves
   pub frames : ℕ
+  -- how far the steps of the checkpoint that runs have come, if one does
+  pub progress : Option Progress
 
 abbrev pub plain : Formats
 plain = record { key = U; value = U }
 
 -- nothing is started
 abbrev pub nothing_kept : Kept
-nothing_kept = record { formats = replicate SESSIONS_MAX plain; evicting = None ∷ None ∷ None ∷ None ∷ [] }
+nothing_kept = record { formats = replicate SESSIONS_MAX plain; evicting = None ∷ None ∷ None ∷ None ∷ []; checkpointing = None ∷ None ∷ None ∷ None ∷ [] }
 
 -- the formats of the items of a call; plain where its table is not there
 abbrev pub formats_in : Machine → Call → Formats
@@ -95,14 +105,28 @@ abbrev pub IsUnbuilt : Call → Type 0
 IsUnbuilt (call.Session session made) = ⊥
 IsUnbuilt (call.System number made) = IsBuilt made → ⊥
 
--- a call of the system that is made: by an event, or an eviction
+-- one of a checkpoint that runs beside other work
+abbrev pub IsOfRunning : SystemCall → Type 0
+IsOfRunning system.StartCheckpoint = Unit {0}
+IsOfRunning system.StepCheckpoint = Unit {0}
+IsOfRunning system.FinishCheckpoint = Unit {0}
+IsOfRunning _ = ⊥
+
+-- a call of the system that is made, whole or by steps: one that events make, an eviction, or one of such a checkpoint
 abbrev pub IsMade : SystemCall → Type 0
 IsMade (system.Create table formats) = Unit {0}
 IsMade (system.SetStamps oldest stable) = Unit {0}
 IsMade (system.Evict table key) = Unit {0}
+IsMade system.StartCheckpoint = Unit {0}
+IsMade system.StepCheckpoint = Unit {0}
+IsMade system.FinishCheckpoint = Unit {0}
 IsMade _ = ⊥
 
--- one of a later stage
+abbrev pub IsCheckpointCall : Call → Type 0
+IsCheckpointCall (call.Session session made) = ⊥
+IsCheckpointCall (call.System number made) = IsOfRunning made
+
+-- a call of a later stage
 abbrev pub IsLaterCall : Call → Type 0
 IsLaterCall (call.Session session made) = ⊥
 IsLaterCall (call.System number made) = IsMade made → ⊥
@@ -308,15 +332,111 @@ pub record EvictionRests (number : ℕ) (s : Script) (reply : Reply) (later : Sc
   pub there : evicting_by evicting number ≡ Some last
   pub ends : EvictionEnds seen.engine number last (with_evicting s evicting) reply later
 
+-- ---- a checkpoint that runs beside other work
+
+-- how far its steps have come behind a start that was answered so
+abbrev pub begun_with : Answer (List ℕ) → Option Progress → Option Progress
+begun_with answers.Done progress = Some first_place
+begun_with _ progress = progress
+
+-- behind a step: it was refused, or took the next leaf of these, where one was left
+abbrev pub stepped_with : Answer (List ℕ) → Machine → List Leaf → Option Progress → Option Progress
+stepped_with (answers.Refused r) m leaves progress = progress
+stepped_with _ m leaves progress = option_map (passed m leaves) progress
+
+-- behind a finish, while it runs still
+abbrev pub while_running : Option RunningCheckpoint → Option Progress → Option Progress
+while_running None progress = None
+while_running (Some c) progress = progress
+
+pub record StartsCheckpoint (s : Script) (reply : Reply) (later : Script) : Type 0 where
+  pub answer : Answer (List ℕ)
+  pub next : Machine
+  pub answered : SystemAnswers (around_start s.device) s.world.machine CkptStart answer next
+  pub told : reply ≡ Answered answer
+  pub leaves : later ≡ record s { world = record s.world { machine = next }; progress = begun_with answer s.progress }
+
+-- The next leaf is taken, where one is left: nothing else is changed.
+pub record StepsCheckpoint (s : Script) (reply : Reply) (later : Script) : Type 0 where
+  pub seen : Seen s
+  pub answer : Answer (List ℕ)
+  pub answered : SystemAnswers (around_step (left_of s.world.machine seen.engine.hub.dir.leaves s.progress)) s.world.machine CkptStep answer s.world.machine
+  pub told : reply ≡ Answered answer
+  pub leaves : later ≡ record s { progress = stepped_with answer s.world.machine seen.engine.hub.dir.leaves s.progress }
+
+-- It is finished, or is not; lives: the leaves that were written since the last one.
+pub record FinishesCheckpoint (s : Script) (reply : Reply) (later : Script) : Type 0 where
+  pub seen : Seen s
+  pub lives : List Lone
+  pub answer : Answer (List ℕ)
+  pub next : Machine
+  pub device : Device
+  pub made : List Installed
+  pub behind : IsFinishLeft s.device device s.world.machine next answer
+  pub answered : SystemAnswers (around_finish (left_of s.world.machine seen.engine.hub.dir.leaves s.progress) seen.engine s.world lives s.device device) s.world.machine CkptFinish answer next
+  pub installs : Installs answer (after_event s.world.machine CheckpointFinish).completed device next s.made made
+  pub told : reply ≡ Answered answer
+  pub leaves : later ≡ record s { world = record s.world { machine = next }; device = device; made = made; progress = while_running next.checkpoint s.progress }
+
+abbrev pub RunsCheckpoint : SystemCall → Script → Reply → Script → Type 0
+RunsCheckpoint system.StartCheckpoint s reply later = StartsCheckpoint s reply later
+RunsCheckpoint system.StepCheckpoint s reply later = StepsCheckpoint s reply later
+RunsCheckpoint system.FinishCheckpoint s reply later = FinishesCheckpoint s reply later
+RunsCheckpoint _ s reply later = ⊥
+
+-- unless its actor has another call
+abbrev pub RunsUnless : Option Asked → SystemCall → Script → Reply → Script → Type 0
+RunsUnless None made s reply later = RunsCheckpoint made s reply later
+RunsUnless (Some other) made s reply later = IsOfRunning made × RefusesInCall s reply later
+
+abbrev pub CheckpointReplies : Call → Script → Formats → Reply → Script → Type 0
+CheckpointReplies (call.Session session made) s formats reply later = ⊥
+CheckpointReplies (call.System number made) s formats reply later = (formats ≡ plain) × RunsUnless (slice_index_or s.world.systems number None) made s reply later
+
+-- ---- calls of such a checkpoint by steps
+
+abbrev pub with_checkpointing : Script → List (Option CheckpointStage) → Script
+with_checkpointing s checkpointing = record s { kept = record s.kept { checkpointing = checkpointing } }
+
+-- the call of the actor of this number is at this stage, or is none
+abbrev pub staged_at : Script → ℕ → Option CheckpointStage → Script
+staged_at s number stage = with_checkpointing s (slice_set s.kept.checkpointing number stage)
+
+-- it begins, unless its actor has another call
+abbrev pub StartsCheckpointCall : Option Asked → Script → ℕ → CheckpointTurn → Reply → Script → Type 0
+StartsCheckpointCall None s number turn reply later = (reply ≡ Started) × (later ≡ staged_at s number (Some (stage.Asked turn)))
+StartsCheckpointCall (Some other) s number turn reply later = RefusesInCall s reply later
+
+pub record BeginsCheckpointCall (made : Call) (s : Script) (reply : Reply) (later : Script) : Type 0 where
+  pub number : ℕ
+  pub turn : CheckpointTurn
+  pub is : made ≡ call.System number (asked_in turn)
+  pub starts : StartsCheckpointCall (slice_index_or s.world.systems number None) s number turn reply later
+
+-- the steps that are left: it is made, and is at no stage any more
+abbrev pub CheckpointCallEnds : ℕ → CheckpointStage → Script → Reply → Script → Type 0
+CheckpointCallEnds number at s reply later = RunsCheckpoint (asked_in (turn_of at)) (staged_at s number None) reply later
+
+-- A step: one that asks for a step of the checkpoint and finds that a leaf is left goes on, and nothing else is changed; any other is made.
+pub record CheckpointCallTurns (number : ℕ) (at : CheckpointStage) (s : Script) (reply : Reply) (later : Script) : Type 0 where
+  pub seen : Seen s
+  pub turns : MatchBool (finds_leaf at (has_left s.world.machine (left_of s.world.machine seen.engine.hub.dir.leaves s.progress)))
+      ((reply ≡ More) × (later ≡ staged_at s number (Some stage.Found)))
+      (CheckpointCallEnds number at s reply later)
+
 -- ---- lines that are asked of the device
 
 -- The world of an engine as an opening makes it, with these rows in leaves that are in no frame: no session, and nothing started. The older versions that it has are those that its store keeps, whatever a world says of them.
 abbrev pub opened_world : Machine → (ℕ → List Row) → World
 opened_world m shelf = record { machine = m; sessions = []; systems = None ∷ None ∷ None ∷ None ∷ []; shelf = shelf; records = λ id key. []; again = λ session. false }
 
+-- a call of the actor of the system of this number is kept
+abbrev pub has_call_kept : Kept → ℕ → Bool
+has_call_kept kept number = is_there (evicting_by kept.evicting number) || is_there (checkpointing_by kept.checkpointing number)
+
 -- `sys` has a call that is not finished
 abbrev pub is_busy : Script → Bool
-is_busy s = is_there (slice_index_or s.world.systems 0 None) || is_there (evicting_by s.kept.evicting 0)
+is_busy s = is_there (slice_index_or s.world.systems 0 None) || has_call_kept s.kept 0
 
 -- a line of `sys` that is no call: refused where `sys` has such a call
 abbrev pub BySystem : Script → Reply → Script → Type 0 → Type 0
@@ -350,7 +470,7 @@ pub record Closes (s : Script) (answer : Answer (List ℕ)) (later : Script) : T
   pub installs : Installs answer (checkpointed (rolled_back s.world.machine)).completed device next s.made made
   pub leaves : later ≡ on_device s next device made
 
--- an eviction has found its leaf, and is not finished; an engine that is down tells another refusal first
+-- an eviction has found its leaf, and is not finished; an engine that is down, and a checkpoint that runs, tell another refusal first
 pub record ClosesBusy (s : Script) (reply : Reply) (later : Script) : Type 0 where
   pub number : ℕ
   pub evicting : Evicting
@@ -358,6 +478,7 @@ pub record ClosesBusy (s : Script) (reply : Reply) (later : Script) : Type 0 whe
   pub target : Target
   pub found : found_in evicting.stage ≡ Some target
   pub up : s.world.machine.fault ≡ None
+  pub idle : s.world.machine.checkpoint ≡ None
   pub told : reply ≡ Answered (answers.Refused (refusal.Busy (EvictingFrame target.frame)))
   pub same : later ≡ s
 
@@ -371,7 +492,7 @@ pub record Reopens (frames : ℕ) (s later : Script) : Type 0 where
   pub seen : device.seen ≡ s.device.seen
   pub capacity : device.capacity ≡ s.device.capacity
   pub shelf : ℕ → List Row
-  pub leaves : later ≡ record s { world = opened_world (start content) shelf; device = device; kept = nothing_kept; frames = frames }
+  pub leaves : later ≡ record s { world = opened_world (start content) shelf; device = device; kept = nothing_kept; frames = frames; progress = None }
 
 -- it is not opened, and the engine before it is the last
 pub record NotReopened (s : Script) (r : Refusal) (later : Script) : Type 0 where
@@ -401,25 +522,33 @@ StopsBy _ s r later = ⊥
 
 -- ---- the reply to a line, in these formats, and what it leaves
 
--- of an actor that has no eviction
+-- of an actor of which no call is kept
 abbrev pub ActorReplies : Line → Script → Formats → Reply → Script → Type 0
 ActorReplies (Whole made) s formats reply later =
     Opens (caller made) s.world (λ w. Answers made s formats reply later w ⊎ Refuses refusal.NoMemory s w reply later) (λ r w. Refuses r s w reply later)
-    ⊎ Evicts made s formats reply later
+    ⊎ (Evicts made s formats reply later ⊎ CheckpointReplies made s formats reply later)
 ActorReplies (Start made) s formats reply later =
     Opens (caller made) s.world (λ w. Begins made s formats reply later w ⊎ Refuses refusal.NoMemory s w reply later) (λ r w. Refuses r s w reply later)
-    ⊎ BeginsEvicting made s formats reply later
+    ⊎ (BeginsEvicting made s formats reply later ⊎ BeginsCheckpointCall made s reply later)
 ActorReplies (Step who) s formats reply later = Opens (actor_in who) s.world (λ w. Goes (actor_in who) s formats reply later w) (λ r w. Refuses r s w reply later)
 ActorReplies (Finish who) s formats reply later = Opens (actor_in who) s.world (λ w. Ends (actor_in who) s formats reply later w) (λ r w. Refuses r s w reply later)
 ActorReplies (OfAll asked) s formats reply later = ⊥
 
--- of one that has this one
+-- of one that has this eviction
 abbrev pub EvictionReplies : Line → ℕ → Evicting → Script → Reply → Script → Type 0
 EvictionReplies (Whole made) number x s reply later = RefusesInCall s reply later
 EvictionReplies (Start made) number x s reply later = RefusesInCall s reply later
 EvictionReplies (Step who) number x s reply later = EvictionTurns number x s reply later
 EvictionReplies (Finish who) number x s reply later = EvictionRests number s reply later
 EvictionReplies (OfAll asked) number x s reply later = ⊥
+
+-- of one that has a call of a checkpoint at this stage
+abbrev pub CheckpointCallReplies : Line → ℕ → CheckpointStage → Script → Reply → Script → Type 0
+CheckpointCallReplies (Whole made) number at s reply later = RefusesInCall s reply later
+CheckpointCallReplies (Start made) number at s reply later = RefusesInCall s reply later
+CheckpointCallReplies (Step who) number at s reply later = CheckpointCallTurns number at s reply later
+CheckpointCallReplies (Finish who) number at s reply later = CheckpointCallEnds number at s reply later
+CheckpointCallReplies (OfAll asked) number at s reply later = ⊥
 
 -- whose line it is; one that is asked of the device is of `sys`
 abbrev pub actor_of : Line → EngineActor
@@ -443,12 +572,17 @@ abbrev pub number_of : EngineActor → ℕ
 number_of (by.Session session) = 0
 number_of (by.System number) = number
 
-abbrev pub RepliesBy : Option Evicting → Line → Script → Formats → Reply → Script → Type 0
-RepliesBy None asked s formats reply later = ActorReplies asked s formats reply later
-RepliesBy (Some x) asked s formats reply later = EvictionReplies asked (number_of (actor_of asked)) x s reply later
+-- no call of the actor is kept
+abbrev pub IsFree : EngineActor → Kept → Type 0
+IsFree who kept = (eviction_of who kept.evicting ≡ None) × (checkpointing_of who kept.checkpointing ≡ None)
+
+abbrev pub RepliesBy : Option Evicting → Option CheckpointStage → Line → Script → Formats → Reply → Script → Type 0
+RepliesBy (Some x) at asked s formats reply later = EvictionReplies asked (number_of (actor_of asked)) x s reply later
+RepliesBy None (Some at) asked s formats reply later = CheckpointCallReplies asked (number_of (actor_of asked)) at s reply later
+RepliesBy None None asked s formats reply later = ActorReplies asked s formats reply later
 
 abbrev pub RepliesTo : Line → Script → Formats → Reply → Script → Type 0
-RepliesTo asked s formats reply later = RepliesBy (eviction_of (actor_of asked) s.kept.evicting) asked s formats reply later
+RepliesTo asked s formats reply later = RepliesBy (eviction_of (actor_of asked) s.kept.evicting) (checkpointing_of (actor_of asked) s.kept.checkpointing) asked s formats reply later
 
 abbrev pub Replies : Line → Script → Formats → Reply → Script → Type 0
 Replies (OfAll asked) s formats reply later = (formats ≡ plain) × ControlReplies asked s reply later
@@ -525,8 +659,8 @@ pub record Ran : Type 0 where
   pub end : End
 
 -- before the first line
-abbrev pub fresh : World → Device → (frames : ℕ) → Script
-fresh w device frames = record { world = w; device = device; first = w.machine.completed; made = []; kept = nothing_kept; frames = frames }
+abbrev pub fresh : World → Device → (frames : ℕ) → Option Progress → Script
+fresh w device frames progress = record { world = w; device = device; first = w.machine.completed; made = []; kept = nothing_kept; frames = frames; progress = progress }
 
 abbrev pub ends : End → Script → Ran
 ends end s = record { text = []; replies = []; last = s; end = end }

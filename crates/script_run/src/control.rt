@@ -13,8 +13,9 @@ ghost use Rattle.script_text.specs.declared.line.Line.TheVariants.{Control as Co
 ghost use Rattle.script_text.specs.declared.line.Control.TheVariants.{Checkpoint as CheckpointLine, Close as CloseLine, Crash as CrashLine, Frames as FramesLine};
 ghost use Rattle.script_run.specs.Faults.{RepliesFault, TellsFaults};
 ghost use Rattle.script_run.specs.Runs.{IsAt, IsTold, RepliedAs, frames_after};
-ghost use Rattle.script_run.specs.Scripts.{Script};
+ghost use Rattle.script_run.specs.Scripts.{Script, has_call_kept};
 
+use crate::checkpointing::staged_call;
 use crate::kept::Kept;
 use crate::told::{Told, done, refused};
 use disk_model::Disk;
@@ -42,27 +43,23 @@ pub(crate) fn control<D: Disk>(
     ensures disk { SameDisk D.Disk disk.old disk.new }
 {
     match asked {
-        Control::Checkpoint => Ok(checkpoint(alloc, store, disk, &kept.evicting)),
+        Control::Checkpoint => Ok(checkpoint(alloc, store, disk, kept)),
         Control::Close => close(alloc, store, disk, kept),
         Control::Crash => reopen_as_it_was(alloc, store, disk, kept),
         Control::Frames(frames) => reopen(alloc, store, disk, kept, frames),
     }
 }
 
-fn checkpoint<D: Disk>(
-    alloc: Global,
-    store: &mut Store,
-    disk: &mut D,
-    evicting: &[Option<Evicting>],
-) -> Told
+fn checkpoint<D: Disk>(alloc: Global, store: &mut Store, disk: &mut D, kept: &Kept) -> Told
     requires ready { IsReady store.old }
-    ensures replies { IsTrue (D.honest disk.old) → (first_disk : D) → (s : Script) → IsAt D.Disk first_disk store.old disk.old s → s.kept.evicting ≡ evicting.now → IsTold D.Disk first_disk (ControlLine CheckpointLine) s store.new disk.new s.kept result }
+    ensures replies { IsTrue (D.honest disk.old) → (first_disk : D) → (s : Script) → IsAt D.Disk first_disk store.old disk.old s → s.kept ≡ kept.now → IsTold D.Disk first_disk (ControlLine CheckpointLine) s store.new disk.new s.kept result }
     ensures told { TellsFaults D.Disk store.old store.new disk.old disk.new (λ rose. RepliesFault (Ok result) → rose) }
     ensures frames { store.new.frames ≡ store.old.frames }
+    ensures running { store.new.running ≡ store.old.running }
     ensures ready { IsReady store.new }
     ensures disk { SameDisk D.Disk disk.old disk.new }
 {
-    if is_busy(store, evicting) {
+    if is_busy(store, kept) {
         return refused(Refusal::Invalid(Invalid::InCall));
     }
     match store.checkpoint(alloc, disk) {
@@ -72,24 +69,39 @@ fn checkpoint<D: Disk>(
 }
 
 // Whether `sys` has a call that is not finished.
-fn is_busy(store: &Store, evicting: &[Option<Evicting>]) -> bool
-    ensures { (w : World) → Stands store.now.engine w → result ≡ (is_there (slice_index_or w.systems 0 None) || is_there (evicting_by evicting.now 0)) }
+fn is_busy(store: &Store, kept: &Kept) -> bool
+    ensures { (w : World) → Stands store.now.engine w → result ≡ (is_there (slice_index_or w.systems 0 None) || has_call_kept kept.now 0) }
 {
-    store.engine.has_started(0) || is_evicting(evicting, 0)
+    store.engine.has_started(0) || has_kept(kept, 0)
 }
 
-// The frame of an eviction that has found its leaf, while the engine is up.
+// Whether a call of the actor of the system of this number is kept.
+fn has_kept(kept: &Kept, number: u32) -> bool
+    ensures { result ≡ has_call_kept kept.now number }
+{
+    is_evicting(&kept.evicting, number) || staged_call(&kept.checkpointing, number).is_some()
+}
+
+// The frame of an eviction that has found its leaf, while the engine is up and no checkpoint runs.
 fn busy_evicting(store: &Store, evicting: &[Option<Evicting>]) -> Option<u32>
-    ensures some { IfSome result (λ frame. (store.now.engine.hub.fault ≡ None) × ((number : ℕ) × (target : ATarget) × (found_on (evicting_by evicting.now number) ≡ Some target) × (target.frame ≡ frame))) }
-    ensures none { result ≡ None → store.now.engine.hub.fault ≡ None → (number : ℕ) → found_on (evicting_by evicting.now number) ≡ None }
+    ensures some { IfSome result (λ frame. (store.now.engine.hub.fault ≡ None) × (store.now.running ≡ None) × ((number : ℕ) × (target : ATarget) × (found_on (evicting_by evicting.now number) ≡ Some target) × (target.frame ≡ frame))) }
+    ensures none { result ≡ None → store.now.engine.hub.fault ≡ None → store.now.running ≡ None → (number : ℕ) → found_on (evicting_by evicting.now number) ≡ None }
 {
-    match store.engine.fault() {
-        Some(_) => None,
-        None => first_found(evicting),
+    if is_barred(store) {
+        return None;
     }
+    first_found(evicting)
 }
 
-// After a close the device is opened anew. None comes while an eviction has found its leaf.
+// Whether the engine is down or a checkpoint runs.
+fn is_barred(store: &Store) -> bool
+    ensures { result ≡ (is_there store.now.engine.hub.fault || is_there store.now.running) }
+{
+    store.engine.fault().is_some() || store.running.is_some()
+}
+
+// After a close the device is opened anew. None comes while a checkpoint runs, or an eviction has found
+// its leaf.
 fn close<D: Disk>(
     alloc: Global,
     store: &mut Store,
@@ -105,7 +117,7 @@ fn close<D: Disk>(
     ensures ready { IsReady store.new }
     ensures disk { SameDisk D.Disk disk.old disk.new }
 {
-    if is_busy(store, &kept.evicting) {
+    if is_busy(store, kept) {
         return Ok(refused(Refusal::Invalid(Invalid::InCall)));
     }
     if let Some(frame) = busy_evicting(store, &kept.evicting) {

@@ -10,7 +10,6 @@ ghost use Rattle.engine_world.specs.Stands.{Stands};
 ghost use Rattle.engine_world.specs.Worlds.{World};
 ghost use Rattle.engine.specs.Turning.{evicting_by};
 ghost use Rattle.engine.specs.declared.step.Actor.TheVariants as by;
-ghost use Rattle.engine_store.specs.Answers.{answer_of};
 ghost use Rattle.engine_store.specs.Calls.{StaysTold};
 ghost use Rattle.engine_store.specs.Devices.{Installed};
 ghost use Rattle.engine_store.specs.EvictSteps.{EvictsBeside};
@@ -21,11 +20,11 @@ ghost use Rattle.script_text.specs.declared.line.Line.TheVariants.{Whole as Whol
 ghost use Rattle.script_text.specs.declared.replies.Reply.TheVariants.{Answered};
 ghost use Rattle.script_run.specs.Faults.{RepliesFault, TellsFaults};
 ghost use Rattle.script_run.specs.Runs.{IsAt, IsCallLine, IsTold};
-ghost use Rattle.script_run.specs.Scripts.{IsLaterCall, IsUnbuilt, Script, StartsEvicting, actor_in, actor_of, caller, eviction_of, plain, system_in, with_evicting};
+ghost use Rattle.script_run.specs.Scripts.{IsCheckpointCall, IsFree, IsLaterCall, IsUnbuilt, Script, StartsEvicting, actor_in, actor_of, caller, system_in, with_evicting};
 
 use crate::kept::Kept;
 use crate::one_line::formats_in;
-use crate::told::{PLAIN, Told, done, refused};
+use crate::told::{Told, more, refused, told_of};
 use disk_model::Disk;
 use engine::{EvictStage, Evicting, put_evicting, put_stage};
 use engine_store::{EvictTurn, Store};
@@ -45,8 +44,9 @@ pub(crate) fn evict<D: Disk>(
 ) -> Told
     requires now { IsLaterCall call → ⊥ }
     requires evicts { IsUnbuilt call }
+    requires other { IsCheckpointCall call → ⊥ }
     requires ready { IsReady store.old }
-    ensures replies { IsTrue (D.honest disk.old) → (first_disk : D) → (s : Script) → IsAt D.Disk first_disk store.old disk.old s → s.kept ≡ kept.now → eviction_of (caller call) s.kept.evicting ≡ None
+    ensures replies { IsTrue (D.honest disk.old) → (first_disk : D) → (s : Script) → IsAt D.Disk first_disk store.old disk.old s → s.kept ≡ kept.now → IsFree (caller call) s.kept
         → IsTold D.Disk first_disk (WholeLine call) s store.new disk.new s.kept result }
     ensures told { TellsFaults D.Disk store.old store.new disk.old disk.new (λ rose. RepliesFault (Ok result) → rose) }
     ensures ready { IsReady store.new }
@@ -109,6 +109,7 @@ fn answer_to<D: Disk>(
         → EvictsBeside D.Disk start w first made store.old store.new disk.old disk.new evicting.now number table.now key.now None result }
     ensures fault { result ≡ Answer.Refused Refusal.DiskFault → Rose (D.faults disk.old) (D.faults disk.new) }
     ensures frames { store.new.frames ≡ store.old.frames }
+    ensures running { store.new.running ≡ store.old.running }
     ensures ready { IsReady store.old → IsReady store.new }
     ensures told { StaysTold D.Disk store.old store.new disk.old disk.new }
     ensures disk { SameDisk D.Disk disk.old disk.new }
@@ -131,8 +132,9 @@ pub(crate) fn start_evicting<D: Disk>(
 ) -> Told
     requires now { IsLaterCall call → ⊥ }
     requires evicts { IsUnbuilt call }
+    requires other { IsCheckpointCall call → ⊥ }
     requires ready { IsReady store.old }
-    ensures replies { IsTrue (D.honest disk.old) → (first_disk : D) → (s : Script) → IsAt D.Disk first_disk store.old disk.old s → s.kept ≡ kept.old → eviction_of (caller call) s.kept.evicting ≡ None
+    ensures replies { IsTrue (D.honest disk.old) → (first_disk : D) → (s : Script) → IsAt D.Disk first_disk store.old disk.old s → s.kept ≡ kept.old → IsFree (caller call) s.kept
         → IsTold D.Disk first_disk (StartLine call) s store.new disk.new kept.new result }
     ensures told { TellsFaults D.Disk store.old store.new disk.old disk.new (λ rose. RepliesFault (Ok result) → rose) }
     ensures ready { IsReady store.new }
@@ -239,25 +241,4 @@ fn finish_evicting<D: Disk>(
     let result = store.evict_rest(alloc, disk, number, &mut kept.evicting);
     put_evicting(&mut kept.evicting, number, None);
     told_of(result)
-}
-
-fn more() -> Told
-    ensures reply { result.reply ≡ Reply.More }
-    ensures formats { result.formats ≡ plain }
-{
-    Told {
-        reply: Reply::More,
-        formats: PLAIN,
-    }
-}
-
-// What is told of the end of an eviction.
-fn told_of(ended: Result<(), Refusal>) -> Told
-    ensures reply { result.reply ≡ Answered (answer_of ended) }
-    ensures formats { result.formats ≡ plain }
-{
-    match ended {
-        Ok(()) => done(),
-        Err(refusal) => refused(refusal),
-    }
 }

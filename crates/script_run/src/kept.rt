@@ -2,6 +2,7 @@
 ghost use Rattle.std.specs.Prelude.{◌≡◌};
 ghost use Rattle.script_run.specs.Scripts.{nothing_kept};
 
+use crate::checkpointing::CheckpointStage;
 use crate::told::PLAIN;
 use engine::Evicting;
 use item::Formats;
@@ -14,6 +15,8 @@ pub struct Kept {
     pub formats: [Formats; SESSIONS_MAX],
     /// By actor of the system, its eviction that goes by steps.
     pub evicting: [Option<Evicting>; 4],
+    /// By actor of the system, its call of a checkpoint that goes by steps.
+    pub checkpointing: [Option<CheckpointStage>; 4],
 }
 
 impl Kept {
@@ -24,6 +27,7 @@ impl Kept {
         Kept {
             formats: [PLAIN; SESSIONS_MAX],
             evicting: [None, None, None, None],
+            checkpointing: [None, None, None, None],
         }
     }
 }

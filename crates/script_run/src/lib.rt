@@ -7,7 +7,9 @@
 //! tells its reply; that a call whose leaf is read from the device and cannot be had is refused,
 //! and tells a fault of the disk only where one rose; that a whole call which evicts the leaf of a
 //! key writes to the device, and tells who keeps it; that an eviction which goes by steps changes
-//! nothing before its last one, and that a call which comes to its leaf meanwhile is told so; that
+//! nothing before its last one, and that a call which comes to its leaf meanwhile is told so; that a
+//! checkpoint runs from the line that starts it up to the one that finishes it, beside whatever other
+//! lines ask for; that
 //! behind any other line of an actor leaves may leave memory, which no reply tells, but that the
 //! engine is down where a write failed then;
 //! that a refusal which a line replies does not end the script, and that bytes which are no line,
@@ -18,6 +20,7 @@
 //! ended.
 #![tactic(auto)]
 
+mod checkpointing;
 mod control;
 mod evicting;
 mod kept;

@@ -11,10 +11,15 @@ ghost use Rattle.kv_model.specs.Decisions.{is_there};
 ghost use Rattle.engine.specs.Runs.{IsBuilt};
 ghost use Rattle.engine.specs.Turning.{evicting_by};
 ghost use Rattle.engine_store.specs.Calls.{CallKeeps, MayAnswerSo, StaysTold, TellsSo};
+ghost use Rattle.script_run.specs.Checkpointing.{checkpointing_by, checkpointing_of};
 ghost use Rattle.script_run.specs.Faults.{RepliesFault, TellsFaults};
 ghost use Rattle.script_run.specs.Runs.{IsAnswerTo, IsAnswered, IsAt, IsBegun, IsCallLine, IsEnded, IsGone, IsKnown, IsNoSession, IsOfActor, IsOfKnown, IsReplied, IsTaken, IsThere, IsTold, LineMade, OpensAs, PrintsFault, RepliedAs, RepliesSo, Standing, StandingIn, StandsAt, StopsDamaged};
-ghost use Rattle.script_run.specs.Scripts.{Script, IsLater, IsUnbuilt, IsLaterCall, IsMade, actor_in, actor_of, caller, eviction_of, formats_in, in_script, kept_after, kept_formats, kept_more, listed, refusals_in, system_in};
+ghost use Rattle.script_run.specs.Scripts.{Script, IsLater, IsUnbuilt, IsFree, IsLaterCall, IsMade, actor_in, actor_of, caller, eviction_of, formats_in, in_script, kept_after, kept_formats, kept_more, listed, refusals_in, system_in};
 
+use crate::checkpointing::{
+    CheckpointStage, StagedCall, checkpoint_call, run_checkpoint, staged_call, start_call,
+    turn_call,
+};
 use crate::control::control;
 use crate::evicting::{evict, start_evicting, turn_evicting};
 use crate::kept::Kept;
@@ -123,7 +128,7 @@ fn is_built(call: &SystemCall) -> bool
     }
 }
 
-// Whether the store makes a whole call of the system.
+// Whether a call of the system is made.
 fn is_made(call: &SystemCall) -> bool
     ensures { IsTrue result ↔ IsMade call.now }
 {
@@ -131,6 +136,9 @@ fn is_made(call: &SystemCall) -> bool
         SystemCall::Create { .. } => true,
         SystemCall::SetStamps { .. } => true,
         SystemCall::Evict { .. } => true,
+        SystemCall::StartCheckpoint => true,
+        SystemCall::StepCheckpoint => true,
+        SystemCall::FinishCheckpoint => true,
         _ => false,
     }
 }
@@ -207,8 +215,43 @@ fn reply_to_call<D: Disk>(
     ensures disk { SameDisk D.Disk disk.old disk.new }
 {
     match has_eviction(&line, &kept.evicting) {
-        None => reply_to_free(alloc, store, disk, kept, line),
+        None => reply_to_calling(alloc, store, disk, kept, line),
         Some(number) => turn_evicting(alloc, store, disk, kept, number, line),
+    }
+}
+
+// The reply to a line of an actor that has no eviction: by its call of a checkpoint that goes by steps,
+// where it has one.
+fn reply_to_calling<D: Disk>(
+    alloc: Global,
+    store: &mut Store,
+    disk: &mut D,
+    kept: &mut Kept,
+    line: Line,
+) -> Told
+    requires now { IsCallLine line }
+    requires actor { IsOfKnown line }
+    requires ready { IsReady store.old }
+    ensures replies { IsTrue (D.honest disk.old) → (first_disk : D) → (s : Script) → IsAt D.Disk first_disk store.old disk.old s → s.kept ≡ kept.old → eviction_of (actor_of line) s.kept.evicting ≡ None
+        → IsTold D.Disk first_disk line s store.new disk.new kept.new result }
+    ensures told { TellsFaults D.Disk store.old store.new disk.old disk.new (λ rose. RepliesFault (Ok result) → rose) }
+    ensures ready { IsReady store.new }
+    ensures disk { SameDisk D.Disk disk.old disk.new }
+{
+    match has_call(&line, &kept.checkpointing) {
+        None => reply_to_free(alloc, store, disk, kept, line),
+        Some(call) => turn_call(alloc, store, disk, kept, call, line),
+    }
+}
+
+// The call of a checkpoint by steps of the actor whose line it is, where that has one.
+fn has_call(line: &Line, checkpointing: &[Option<CheckpointStage>]) -> Option<StagedCall>
+    ensures some { IfSome result (λ call. (system_in (actor_of line.now) ≡ Some call.number) × (checkpointing_by checkpointing.now call.number ≡ Some call.stage)) }
+    ensures none { result ≡ None → checkpointing_of (actor_of line.now) checkpointing.now ≡ None }
+{
+    match actor_of(line) {
+        Actor::Session(_) => None,
+        Actor::System(number) => staged_call(checkpointing, number),
     }
 }
 
@@ -242,8 +285,8 @@ fn actor_of(line: &Line) -> Actor
     }
 }
 
-// The reply to a line of an actor that has no eviction. One that evicts writes to the device, and no leaf
-// leaves memory behind it.
+// The reply to a line of an actor that has neither. One that evicts writes to the device, and so does one
+// that finishes a checkpoint: no leaf leaves memory behind it, nor behind one that starts or steps one.
 fn reply_to_free<D: Disk>(
     alloc: Global,
     store: &mut Store,
@@ -254,7 +297,7 @@ fn reply_to_free<D: Disk>(
     requires now { IsCallLine line }
     requires actor { IsOfKnown line }
     requires ready { IsReady store.old }
-    ensures replies { IsTrue (D.honest disk.old) → (first_disk : D) → (s : Script) → IsAt D.Disk first_disk store.old disk.old s → s.kept ≡ kept.old → eviction_of (actor_of line) s.kept.evicting ≡ None
+    ensures replies { IsTrue (D.honest disk.old) → (first_disk : D) → (s : Script) → IsAt D.Disk first_disk store.old disk.old s → s.kept ≡ kept.old → IsFree (actor_of line) s.kept
         → IsTold D.Disk first_disk line s store.new disk.new kept.new result }
     ensures told { TellsFaults D.Disk store.old store.new disk.old disk.new (λ rose. RepliesFault (Ok result) → rose) }
     ensures ready { IsReady store.new }
@@ -278,12 +321,15 @@ fn reply_to_whole<D: Disk>(
     requires now { IsLaterCall call → ⊥ }
     requires actor { IsKnown (caller call) }
     requires ready { IsReady store.old }
-    ensures replies { IsTrue (D.honest disk.old) → (first_disk : D) → (s : Script) → IsAt D.Disk first_disk store.old disk.old s → s.kept ≡ kept.old → eviction_of (caller call) s.kept.evicting ≡ None
+    ensures replies { IsTrue (D.honest disk.old) → (first_disk : D) → (s : Script) → IsAt D.Disk first_disk store.old disk.old s → s.kept ≡ kept.old → IsFree (caller call) s.kept
         → IsTold D.Disk first_disk (WholeLine call) s store.new disk.new kept.new result }
     ensures told { TellsFaults D.Disk store.old store.new disk.old disk.new (λ rose. RepliesFault (Ok result) → rose) }
     ensures ready { IsReady store.new }
     ensures disk { SameDisk D.Disk disk.old disk.new }
 {
+    if let Some(asked) = checkpoint_call(&call) {
+        return run_checkpoint(alloc, store, disk, kept, asked);
+    }
     if is_unbuilt(&call) {
         evict(alloc, store, disk, kept, call)
     } else {
@@ -302,12 +348,15 @@ fn reply_to_start<D: Disk>(
     requires now { IsLaterCall call → ⊥ }
     requires actor { IsKnown (caller call) }
     requires ready { IsReady store.old }
-    ensures replies { IsTrue (D.honest disk.old) → (first_disk : D) → (s : Script) → IsAt D.Disk first_disk store.old disk.old s → s.kept ≡ kept.old → eviction_of (caller call) s.kept.evicting ≡ None
+    ensures replies { IsTrue (D.honest disk.old) → (first_disk : D) → (s : Script) → IsAt D.Disk first_disk store.old disk.old s → s.kept ≡ kept.old → IsFree (caller call) s.kept
         → IsTold D.Disk first_disk (StartLine call) s store.new disk.new kept.new result }
     ensures told { TellsFaults D.Disk store.old store.new disk.old disk.new (λ rose. RepliesFault (Ok result) → rose) }
     ensures ready { IsReady store.new }
     ensures disk { SameDisk D.Disk disk.old disk.new }
 {
+    if let Some(asked) = checkpoint_call(&call) {
+        return start_call(store, disk, kept, asked);
+    }
     if is_unbuilt(&call) {
         start_evicting(alloc, store, disk, kept, call)
     } else {
@@ -326,7 +375,7 @@ fn reply_to_actor<D: Disk>(
     requires now { IsOfActor line }
     requires actor { IsOfKnown line }
     requires ready { IsReady store.old }
-    ensures replies { IsTrue (D.honest disk.old) → (first_disk : D) → (s : Script) → IsAt D.Disk first_disk store.old disk.old s → s.kept ≡ kept.old → eviction_of (actor_of line) s.kept.evicting ≡ None
+    ensures replies { IsTrue (D.honest disk.old) → (first_disk : D) → (s : Script) → IsAt D.Disk first_disk store.old disk.old s → s.kept ≡ kept.old → IsFree (actor_of line) s.kept
         → IsTold D.Disk first_disk line s store.new disk.new kept.new result }
     ensures told { TellsFaults D.Disk store.old store.new disk.old disk.new (λ rose. RepliesFault (Ok result) → rose) }
     ensures ready { IsReady store.new }

@@ -4,6 +4,7 @@ ghost use Rattle.failure.specs.Counts.{Rose};
 ghost use Rattle.disk_model.specs.Crash.{SameDisk};
 ghost use Rattle.engine_store.specs.Full.{count_of};
 ghost use Rattle.engine_store.specs.Opened.{IsAtFault, IsReady};
+ghost use Rattle.engine_store.specs.Progress.{place_in};
 ghost use Rattle.wt_io.specs.Streams.{AtEnd};
 ghost use Rattle.wt_code.specs.declared.refusals.Refusal.TheVariants.{Corrupt};
 ghost use Rattle.engine_world.specs.Worlds.{World};
@@ -59,8 +60,8 @@ pub const INPUT_MAX: u64 = 1 << 30;
 /// `CacheFull`.
 ///
 /// A line has 65,536 bytes at most without its newline, an input `INPUT_MAX`, and there are 64
-/// sessions at most, opened at their first use. An eviction that is not finished at the end is
-/// given up. `O(bytes)` beside the calls.
+/// sessions at most, opened at their first use. An eviction and a checkpoint that are not finished at the
+/// end are given up. `O(bytes)` beside the calls.
 pub fn run_script<D: Disk, S: Source, K: Sink>(
     alloc: Global,
     store: &mut Store,
@@ -69,7 +70,7 @@ pub fn run_script<D: Disk, S: Source, K: Sink>(
     out: &mut K,
 ) -> ScriptRun
     requires ready { IsReady store.old }
-    ensures run { IsTrue (D.honest disk.old) → (w : World) → IsHeld D.Disk disk.old store.old disk.old w w.machine.completed [] → IsRunOver D.Disk S.Source K.Sink input.old input.new out.old out.new w disk.old disk.new (count_of store.old.frames) store.new result }
+    ensures run { IsTrue (D.honest disk.old) → (w : World) → IsHeld D.Disk disk.old store.old disk.old w w.machine.completed [] → IsRunOver D.Disk S.Source K.Sink input.old input.new out.old out.new w disk.old disk.new (count_of store.old.frames) (place_in store.old.running) store.new result }
     ensures input { result.end ≡ InputFails → Rose (S.fault_count input.old) (S.fault_count input.new) }
     ensures output { result.end ≡ OutputFails → Rose (K.fault_count out.old) (K.fault_count out.new) }
     ensures fault { length store.old.engine.sessions ≡ 0 → MetFault result → Rose (D.faults disk.old) (D.faults disk.new) }

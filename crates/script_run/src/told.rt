@@ -1,7 +1,8 @@
 // What a line replies, before it is printed.
 ghost use Rattle.std.specs.Prelude.{◌≡◌};
 ghost use Rattle.wt_code.specs.declared.answers.Answer.TheVariants.{Done, Refused};
-ghost use Rattle.script_text.specs.declared.replies.Reply.TheVariants.{Answered};
+ghost use Rattle.engine_store.specs.Answers.{answer_of};
+ghost use Rattle.script_text.specs.declared.replies.Reply.TheVariants.{Answered, More, Started};
 ghost use Rattle.script_run.specs.Scripts.{plain};
 
 use item::{Format, Formats};
@@ -37,6 +38,39 @@ pub(crate) fn done() -> Told
 {
     Told {
         reply: Reply::Answered(Answer::Done),
+        formats: PLAIN,
+    }
+}
+
+// What is told of the end of a call that has nothing to tell.
+pub(crate) fn told_of(ended: Result<(), Refusal>) -> Told
+    ensures reply { result.reply ≡ Answered (answer_of ended) }
+    ensures formats { result.formats ≡ plain }
+{
+    match ended {
+        Ok(()) => done(),
+        Err(refusal) => refused(refusal),
+    }
+}
+
+// A call has begun.
+pub(crate) fn started() -> Told
+    ensures reply { result.reply ≡ Started }
+    ensures formats { result.formats ≡ plain }
+{
+    Told {
+        reply: Reply::Started,
+        formats: PLAIN,
+    }
+}
+
+// It goes on behind a step.
+pub(crate) fn more() -> Told
+    ensures reply { result.reply ≡ More }
+    ensures formats { result.formats ≡ plain }
+{
+    Told {
+        reply: Reply::More,
         formats: PLAIN,
     }
 }

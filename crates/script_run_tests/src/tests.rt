@@ -2,6 +2,8 @@
 ghost use Rattle.engine_store.specs.Opened.{IsReady};
 
 mod bad_lines;
+mod checkpoints;
+mod checkpoints_beside;
 mod devices;
 mod evictions;
 mod evictions_by_steps;
@@ -11,6 +13,8 @@ mod steps;
 mod stories;
 
 use bad_lines::NO_LINES;
+use checkpoints::{CHECKPOINTS, check_two_leaves};
+use checkpoints_beside::{BESIDE, check_beside};
 use devices::{DEVICES, FAILING, Failing, STAMPED};
 use disk_model::MemDisk;
 use engine_store::{FRAMES, Frames, Store, open_on};
@@ -174,6 +178,19 @@ fn stories_come_out_as_written(rt: HostRuntime) {
     check_stories(&rt, alloc, STAMPED);
     check_stories(&rt, alloc, EVICTIONS);
     check_stories(&rt, alloc, BY_STEPS);
+    check_stories(&rt, alloc, CHECKPOINTS);
+}
+
+#[test]
+fn a_checkpoint_keeps_what_was_there_as_it_started(rt: HostRuntime) {
+    let alloc = rt.alloc();
+    check_two_leaves(&rt, alloc);
+}
+
+#[test]
+fn what_is_done_between_two_steps_of_a_checkpoint_is_not_in_it(rt: HostRuntime) {
+    let alloc = rt.alloc();
+    check_beside(&rt, alloc, BESIDE);
 }
 
 // A line that puts a value of so many letters, behind two other lines.

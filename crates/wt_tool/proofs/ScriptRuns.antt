@@ -46,7 +46,7 @@ four_rest (a ∷ b ∷ c ∷ d ∷ e ∷ xs) is = absurd (omega (arith, is))
 
 -- on an engine and its device, which stand for what was opened
 pub scripted : {D : Type 0} (g : Ghosts D) (o : Outside) (content : Content) (shelf : ℕ → List Row) (w : Streams) (before after : D) (s : Store) (told : ScriptRun) (status : ℕ)
-    → IsRun g o w.in_before w.in_now w.out_before w.out_now (opened_world (start content) shelf) before after FRAMES s told → TellsEnd w.errors told.end told.met status → Scripting g o content w before after status
+    → IsRun g o w.in_before w.in_now w.out_before w.out_now (opened_world (start content) shelf) before after FRAMES None s told → TellsEnd w.errors told.end told.met status → Scripting g o content w before after status
 scripted g o content shelf w before after s told status run tells = record {
   ran = ran_by run.given run.ran;
   run = record { given = run.given; texts = run.texts; behind = run.behind; ended = run.ended; at_end = run.at_end; lines = run.lines; shelf = shelf; made = run.ran; runs = run.runs; whole = run.whole; is = refl };

@@ -1,5 +1,5 @@
 -- The run of `script`: the lines of the input, each a call or a step of one, or one that reaches the device.
-use Rattle.std.specs.Prelude.{◌≡◌, ℕ, Bool, List, [], ◌∷◌, IsTrue}
+use Rattle.std.specs.Prelude.{◌≡◌, ℕ, Bool, List, [], ◌∷◌, IsTrue, None}
 use Rattle.wt_code.specs.declared.refusals.Refusal.{Refusal}
 use Rattle.row_page.specs.Rows.{Row}
 use Rattle.engine_store.specs.declared.eviction.TheConstants.{FRAMES}
@@ -39,6 +39,6 @@ pub record RunsScript (o : Outside) (p : Point) (ran : Ran) : Type 0 where
   -- the rows of the leaves that are in no frame
   pub shelf : ℕ → List Row
   pub made : script.Ran
-  pub runs : RunsLines o 1 0 texts (fresh (opened_world p.machine shelf) p.device FRAMES) made
+  pub runs : RunsLines o 1 0 texts (fresh (opened_world p.machine shelf) p.device FRAMES None) made
   pub whole : made.end ≡ Through → behind ≡ []
   pub is : ran ≡ ran_by given made

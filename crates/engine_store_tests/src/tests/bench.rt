@@ -3,7 +3,7 @@ ghost use Rattle.engine_store.specs.Opened.{IsReady};
 
 use super::{are_low, item};
 use disk_model::MemDisk;
-use engine_store::{FRAMES, Frames, Store, open_on};
+use engine_store::{FRAMES, Frames, Remains, Store, open_on};
 use item::{Format, Formats, Item};
 use plain_disk::PlainDisk;
 use std::alloc::Global;
@@ -234,6 +234,10 @@ pub(super) fn take(rt: &impl Abort, alloc: Global, bench: &mut Bench) -> Result<
 
 pub(super) fn start(alloc: Global, bench: &mut Bench) -> Result<(), Refusal> {
     bench.store.start_checkpoint::<PlainDisk>(alloc)
+}
+
+pub(super) fn step(alloc: Global, bench: &mut Bench) -> Result<Remains, Refusal> {
+    bench.store.step_checkpoint::<PlainDisk>(alloc)
 }
 
 pub(super) fn finish(rt: &impl Abort, alloc: Global, bench: &mut Bench) -> Result<(), Refusal> {

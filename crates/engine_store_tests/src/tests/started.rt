@@ -1,9 +1,10 @@
 // Checkpoints that run while others are at work.
 use super::bench::{
     Bench, begin, bytes_of, commit, crash, create, disk_of, finish, gives, new_device, open, put,
-    start, take, try_close,
+    start, step, take, try_close,
 };
 use super::item;
+use engine_store::Remains;
 use plain_disk::PlainDisk;
 use std::alloc::Global;
 use std::process::Abort;
@@ -19,6 +20,13 @@ enum Did {
     // The leaf of the first table is evicted.
     Evict,
     Start,
+    // A step, behind which a leaf is left.
+    StepLeft,
+    // One behind which none is.
+    StepEnd,
+    // The finish, while a leaf is left.
+    FinishLeft,
+    // The finish, once steps have taken each leaf.
     Finish,
 }
 
@@ -30,7 +38,7 @@ struct Case {
     other: Option<u8>,
 }
 
-const CASES: [Case; 7] = [
+const CASES: [Case; 11] = [
     // What is committed since the start is not captured.
     Case {
         did: &[Did::Write(1), Did::Start, Did::Write(2), Did::Finish],
@@ -104,6 +112,56 @@ const CASES: [Case; 7] = [
         first: Some(2),
         other: None,
     },
+    // Each table has a leaf to take, and it is not finished before.
+    Case {
+        did: &[
+            Did::Write(1),
+            Did::WriteOther(2),
+            Did::Start,
+            Did::FinishLeft,
+            Did::StepLeft,
+            Did::FinishLeft,
+            Did::StepEnd,
+            Did::StepEnd,
+            Did::Finish,
+        ],
+        first: Some(1),
+        other: Some(2),
+    },
+    // A leaf that was taken, and one that was not, are changed and evicted.
+    Case {
+        did: &[
+            Did::Write(1),
+            Did::WriteOther(2),
+            Did::Start,
+            Did::StepLeft,
+            Did::Write(3),
+            Did::WriteOther(4),
+            Did::Evict,
+            Did::StepEnd,
+            Did::Finish,
+        ],
+        first: Some(1),
+        other: Some(2),
+    },
+    // A table that was made since has none to take.
+    Case {
+        did: &[
+            Did::Write(1),
+            Did::Start,
+            Did::WriteOther(2),
+            Did::StepEnd,
+            Did::Finish,
+        ],
+        first: Some(1),
+        other: None,
+    },
+    // Without a table nothing is left at once.
+    Case {
+        did: &[Did::Start, Did::Write(1), Did::StepEnd, Did::Finish],
+        first: None,
+        other: None,
+    },
 ];
 
 fn write(rt: &impl Abort, alloc: Global, bench: &mut Bench, table: &[u8], value: u8) {
@@ -119,13 +177,33 @@ fn evict(rt: &impl Abort, alloc: Global, bench: &mut Bench) {
     assert!(rt; evicted == Ok(()));
 }
 
+// Steps until no leaf is left, of the few that the tests have.
+fn take_leaves(rt: &impl Abort, alloc: Global, bench: &mut Bench) {
+    for _ in 0..4 {
+        assert!(rt; step(alloc, bench).is_ok());
+    }
+}
+
+fn finish_taken(rt: &impl Abort, alloc: Global, bench: &mut Bench) -> Result<(), Refusal> {
+    take_leaves(rt, alloc, bench);
+    finish(rt, alloc, bench)
+}
+
+fn finish_left(rt: &impl Abort, alloc: Global, bench: &mut Bench) {
+    let left = Err(Refusal::Invalid(Invalid::CkptLeft));
+    assert!(rt; finish(rt, alloc, bench) == left);
+}
+
 fn make(rt: &impl Abort, alloc: Global, bench: &mut Bench, did: Did) {
     match did {
         Did::Write(value) => write(rt, alloc, bench, b"a", value),
         Did::WriteOther(value) => write(rt, alloc, bench, b"b", value),
         Did::Evict => evict(rt, alloc, bench),
         Did::Start => assert!(rt; start(alloc, bench) == Ok(())),
-        Did::Finish => assert!(rt; finish(rt, alloc, bench) == Ok(())),
+        Did::StepLeft => assert!(rt; step(alloc, bench) == Ok(Remains::Left)),
+        Did::StepEnd => assert!(rt; step(alloc, bench) == Ok(Remains::End)),
+        Did::FinishLeft => finish_left(rt, alloc, bench),
+        Did::Finish => assert!(rt; finish_taken(rt, alloc, bench) == Ok(())),
     }
 }
 
@@ -171,6 +249,7 @@ fn one_checkpoint_runs_at_a_time(rt: HostRuntime) {
     let none = Err(Refusal::Invalid(Invalid::NoCkpt));
     let mut bench = open(&rt, alloc, new_device(&rt, alloc, &[]));
     assert!(rt; finish(&rt, alloc, &mut bench) == none);
+    assert!(rt; step(alloc, &mut bench) == Err(Refusal::Invalid(Invalid::NoCkpt)));
     assert!(rt; start(alloc, &mut bench) == Ok(()));
     check_busy(&rt, alloc, &mut bench);
     assert!(rt; finish(&rt, alloc, &mut bench) == Ok(()));
@@ -208,8 +287,44 @@ fn one_whose_read_fails_still_runs(rt: HostRuntime) {
     write(&rt, alloc, &mut bench, b"a", 1);
     assert!(rt; start(alloc, &mut bench) == Ok(()));
     write(&rt, alloc, &mut bench, b"a", 2);
+    take_leaves(&rt, alloc, &mut bench);
     assert!(rt; finish(&rt, alloc, &mut bench) == Err(Refusal::DiskFault));
     assert!(rt; finish(&rt, alloc, &mut bench) == Ok(()));
     let mut image = open(&rt, alloc, crash(&rt, bench.disk, 1));
     check(&rt, alloc, &mut image, b"a", Some(1));
+}
+
+// Three rows, of which a leaf has two.
+fn write_rows(rt: &impl Abort, alloc: Global, bench: &mut Bench) {
+    create(rt, alloc, bench, b"a");
+    begin(rt, alloc, bench, 0);
+    for row in 0..3u8 {
+        let value = bytes_of(rt, alloc, 12_000, row);
+        put(rt, alloc, bench, 0, (b"a", &[row], &value));
+    }
+    commit(rt, alloc, bench, 0);
+}
+
+// The leaf of the rows parts in two by an eviction, before the start or behind it.
+fn check_parted(rt: &impl Abort, alloc: Global, before: bool) {
+    let mut bench = open(rt, alloc, new_device(rt, alloc, &[]));
+    write_rows(rt, alloc, &mut bench);
+    if before {
+        evict(rt, alloc, &mut bench);
+    }
+    assert!(rt; start(alloc, &mut bench) == Ok(()));
+    if !before {
+        evict(rt, alloc, &mut bench);
+    }
+    assert!(rt; step(alloc, &mut bench) == Ok(Remains::Left));
+    finish_left(rt, alloc, &mut bench);
+    assert!(rt; step(alloc, &mut bench) == Ok(Remains::End));
+    assert!(rt; finish(rt, alloc, &mut bench) == Ok(()));
+}
+
+#[test]
+fn each_leaf_of_a_table_is_taken(rt: HostRuntime) {
+    let alloc = rt.alloc();
+    check_parted(&rt, alloc, true);
+    check_parted(&rt, alloc, false);
 }

@@ -42,6 +42,6 @@ pub(super) const NO_LINES: &[&str] = &[
     "s1 close",
     "sys! crash",
     "sys rts",
-    "sys ckpt-start",
-    "sys! ckpt-step",
+    "sys! rts",
+    "sys! ckpt",
 ];

@@ -137,6 +137,30 @@ const STORIES: &[Story<'static>] = &[
         },
         behind: HAS_X,
     },
+    // A checkpoint that runs beside a commit keeps what was committed as it started.
+    Story {
+        case: Case {
+            text: "sys create t S S\ns1 begin\ns1 put t a 1\ns1 commit\nsys ckpt-start\ns1 begin\ns1 put t a 2\ns1 put t b 2\ns1 commit\nsys ckpt-finish\nsys ckpt-step\nsys ckpt-finish\ns1 begin\ns1 get t a\n",
+            reads: &[],
+            writes: &[],
+            status: 0,
+            told: "",
+            printed: "ok\nok\nok\nok\nok\nok\nok\nok\nok\n22 checkpoint left\nok end\nok\nok\nok 2\n",
+        },
+        behind: FORGETS_B,
+    },
+    // The end of a script gives up one that runs.
+    Story {
+        case: Case {
+            text: "sys create t S S\nsys ckpt\ns1 begin\ns1 put t a 1\ns1 commit\nsys ckpt-start\nsys ckpt-step\n",
+            reads: &[],
+            writes: &[],
+            status: 0,
+            told: "",
+            printed: "ok\nok\nok\nok\nok\nok\nok end\n",
+        },
+        behind: FORGETS_A,
+    },
 ];
 
 #[test]
@@ -151,19 +175,41 @@ fn a_script_keeps_what_its_last_checkpoint_took(rt: HostRuntime) {
 }
 
 // Two checkpoints: of the table, and of its row.
-const TWICE: &str = "sys create t S S\nsys ckpt\ns1 begin\ns1 put t a 1\ns1 commit\nsys ckpt\n";
+#[derive(Clone, Copy)]
+struct Twice<'a> {
+    text: &'a str,
+    // How many calls of the disk there are.
+    calls: u64,
+    // What is read behind them where a call of the first fails that does not take the engine down.
+    unmade: State,
+}
 
-// An opening takes 4 calls of the disk. The first checkpoint takes 10, and so does the second, which
-// writes a leaf too and needs no sync before it.
-const CALLS: u64 = 4 + 10 + 10;
+// An opening takes 4 calls of the disk, and the first checkpoint takes 10.
+const FIRST: u64 = 4 + 10;
+
+const TWICE: &[Twice<'static>] = &[
+    // The second writes a leaf too, and needs no sync before it. It takes all where the first was not made.
+    Twice {
+        text: "sys create t S S\nsys ckpt\ns1 begin\ns1 put t a 1\ns1 commit\nsys ckpt\n",
+        calls: FIRST + 10,
+        unmade: State::One,
+    },
+    // The second writes a block of the history too. The first still runs where it was not made, and is
+    // finished in the place of the second.
+    Twice {
+        text: "sys create t S S\nsys ckpt-start\nsys ckpt-step\nsys ckpt-finish\ns1 begin\ns1 put t a 1\ns1 commit\nsys ckpt-start\ns1 begin\ns1 put t a 2\ns1 commit\nsys ckpt-step\nsys ckpt-finish\n",
+        calls: FIRST + 11,
+        unmade: State::NoRow,
+    },
+];
 
 // The two checkpoints on a new device, where the call of this number fails; with the number of the
 // calls, none does.
-fn twice(rt: &impl Abort, alloc: Global, call: u64) -> MemDisk {
+fn made_twice(rt: &impl Abort, alloc: Global, of: Twice<'_>, call: u64) -> MemDisk {
     let content = bytes_of(rt, alloc, &new_device(rt, alloc));
     let disk = disk_of(rt, alloc, content, ROOM, &[call]);
     let case = Case {
-        text: TWICE,
+        text: of.text,
         reads: &[],
         writes: &[],
         status: 0,
@@ -171,48 +217,56 @@ fn twice(rt: &impl Abort, alloc: Global, call: u64) -> MemDisk {
         printed: "",
     };
     let ran = run(rt, alloc, disk, case);
-    let (status, faults) = if call < CALLS { (4, 1) } else { (0, 0) };
+    let (status, faults) = if call < of.calls { (4, 1) } else { (0, 0) };
     assert_eq!(rt; ran.status, status, "call {call}");
     assert_eq!(rt; ran.disk.faults(), faults, "call {call}");
     ran.disk
 }
 
 // What is read behind it. A failed write or sync takes the engine down. Where the length is not told, or
-// a read of a slot fails, it stays up, so that the second checkpoint takes all.
-fn left(call: u64) -> State {
+// a read of a slot fails, it stays up.
+fn left(of: Twice<'_>, call: u64) -> State {
     match call {
-        4 | 8 | 9 => State::One,
+        4 | 8 | 9 => of.unmade,
         0..=12 => State::NoTable,
-        13..=22 => State::NoRow,
+        _ if call < of.calls.saturating_sub(1) => State::NoRow,
         _ => State::One,
     }
 }
 
 // What is read behind it and a crash. The gate of a slot is one byte, written by the last call but
 // one: a crash leaves nothing of it or all of it.
-fn left_by_crash(call: u64, pick: u64) -> State {
+fn left_by_crash(of: Twice<'_>, call: u64, pick: u64) -> State {
     let is_open = matches!(pick % 8, 1 | 3 | 4 | 6);
+    let is_last = call < of.calls && of.calls.saturating_sub(call) <= 2;
     match call {
         12 | 13 if is_open => State::NoRow,
         12 | 13 => State::NoTable,
-        22 | 23 if is_open => State::One,
-        22 | 23 => State::NoRow,
-        _ => left(call),
+        _ if is_last && is_open => State::One,
+        _ if is_last => State::NoRow,
+        _ => left(of, call),
+    }
+}
+
+// The two checkpoints behind which a failing call, and a crash, leave these.
+fn check_twice(rt: &impl Abort, alloc: Global, of: Twice<'_>, call: u64) {
+    let content = bytes_of(rt, alloc, &made_twice(rt, alloc, of, call));
+    let found = state_of(rt, alloc, content);
+    assert_eq!(rt; found, left(of, call), "call {call}");
+    for pick in 0..8 {
+        let crashed = made_twice(rt, alloc, of, call).crash(pick);
+        let crashed = crashed.expect(rt, "there is memory");
+        let found = state_of(rt, alloc, bytes_of(rt, alloc, &crashed));
+        assert_eq!(rt; found, left_by_crash(of, call, pick), "call {call}, {pick}");
     }
 }
 
 #[test]
 fn a_failing_call_of_a_script_and_a_crash_leave_a_checkpoint(rt: HostRuntime) {
     let alloc = rt.alloc();
-    for call in 0..CALLS.saturating_add(1) {
-        let content = bytes_of(&rt, alloc, &twice(&rt, alloc, call));
-        let found = state_of(&rt, alloc, content);
-        assert_eq!(rt; found, left(call), "call {call}");
-        for pick in 0..8 {
-            let crashed = twice(&rt, alloc, call).crash(pick);
-            let crashed = crashed.expect(&rt, "there is memory");
-            let found = state_of(&rt, alloc, bytes_of(&rt, alloc, &crashed));
-            assert_eq!(rt; found, left_by_crash(call, pick), "call {call}, {pick}");
+    for twice in TWICE {
+        for call in 0..twice.calls.saturating_add(1) {
+            check_twice(&rt, alloc, *twice, call);
         }
     }
 }

@@ -6,17 +6,17 @@ use Rattle.script_run.proofs.control.checkpoint.Goals as goal
 
 pub returns-in-Ok-clause-replies : goal.returns-in-Ok-clause-replies
 returns-in-Ok-clause-replies g c = λ honest first s at same.
-    checkpoint_told g.D.Disk first s c.args.store.now c.args.disk.now at (busy_by s c.args.evicting.now c.is_busy.result same (c.is_busy.ensures _ at.held.stands) ∙ c.if-is_busy.false) c.checkpoint.new.self c.checkpoint.new.disk c.checkpoint.ensures.frames (Ok tt) c.done.result
+    checkpoint_told g.D.Disk first s c.args.store.now c.args.disk.now at (busy_by s c.args.kept.now c.is_busy.result same (c.is_busy.ensures _ at.held.stands) ∙ c.if-is_busy.false) c.checkpoint.new.self c.checkpoint.new.disk c.checkpoint.ensures.frames c.checkpoint.ensures.running (Ok tt) c.done.result
     (c.in-Ok.ensures.takes honest first s.world s.first s.made at.held) c.done.ensures.reply c.done.ensures.formats
 
 pub returns-in-Err-clause-replies : goal.returns-in-Err-clause-replies
 returns-in-Err-clause-replies g c = λ honest first s at same.
-    checkpoint_told g.D.Disk first s c.args.store.now c.args.disk.now at (busy_by s c.args.evicting.now c.is_busy.result same (c.is_busy.ensures _ at.held.stands) ∙ c.if-is_busy.false) c.checkpoint.new.self c.checkpoint.new.disk c.checkpoint.ensures.frames (Err c.in-Err.refusal) c.refused-in-Err.result
+    checkpoint_told g.D.Disk first s c.args.store.now c.args.disk.now at (busy_by s c.args.kept.now c.is_busy.result same (c.is_busy.ensures _ at.held.stands) ∙ c.if-is_busy.false) c.checkpoint.new.self c.checkpoint.new.disk c.checkpoint.ensures.frames c.checkpoint.ensures.running (Err c.in-Err.refusal) c.refused-in-Err.result
     (c.in-Err.ensures.takes honest first s.world s.first s.made at.held) c.refused-in-Err.ensures.reply c.refused-in-Err.ensures.formats
 
 pub returns-then-is_busy-clause-replies : goal.returns-then-is_busy-clause-replies
 returns-then-is_busy-clause-replies g c = λ honest first s at same.
-    checkpoint_busy g.D.Disk first s c.args.store.now c.args.disk.now c.refused.result at (busy_by s c.args.evicting.now c.is_busy.result same (c.is_busy.ensures _ at.held.stands) ∙ c.if-is_busy.true) c.refused.ensures.reply c.refused.ensures.formats
+    checkpoint_busy g.D.Disk first s c.args.store.now c.args.disk.now c.refused.result at (busy_by s c.args.kept.now c.is_busy.result same (c.is_busy.ensures _ at.held.stands) ∙ c.if-is_busy.true) c.refused.ensures.reply c.refused.ensures.formats
 
 pub returns-then-is_busy-clause-told : goal.returns-then-is_busy-clause-told
 returns-then-is_busy-clause-told g c =

@@ -1,16 +1,15 @@
-use Rattle.std.proofs.Common.{◌∙◌, ap, refl}
+use Rattle.std.proofs.Common.{◌∙◌, refl}
 use Rattle.std.specs.Prelude.{ℕ, ◌≡◌, IsTrue}
 use Rattle.engine_store.specs.Opened.{IsAtFault}
 use Rattle.wt_code.specs.declared.refusals.Refusal.TheVariants.{Corrupt}
 use Rattle.script_run.proofs.Devices.{busy_by, close_busy, close_evicting, close_done, close_refused, refused_as}
-use Rattle.script_run.specs.declared.kept.Kept.{Kept}
 use Rattle.script_run.specs.Faults.{RepliesFault}
 use Rattle.script_run.proofs.Telling.{refused_faults, same_told, then_faults}
 use Rattle.script_run.proofs.control.close.Goals as goal
 
 pub returns-in-Ok-clause-replies : goal.returns-in-Ok-clause-replies
 returns-in-Ok-clause-replies g c = λ honest first s at same.
-    close_done g.D.Disk first s c.args.store.now c.args.disk.now at (busy_by s c.args.kept.now.evicting c.is_busy.result (ap (λ (k : Kept). k.evicting) same) (c.is_busy.ensures _ at.held.stands) ∙ c.if-is_busy.false) c.close.new.self c.close.new.disk c.close.ensures.frames
+    close_done g.D.Disk first s c.args.store.now c.args.disk.now at (busy_by s c.args.kept.now c.is_busy.result same (c.is_busy.ensures _ at.held.stands) ∙ c.if-is_busy.false) c.close.new.self c.close.new.disk c.close.ensures.frames c.close.ensures.running
     (c.in-Ok.ensures.shuts honest first s.world s.first s.made at.held) c.reopen_as_it_was.new.store c.reopen_as_it_was.new.disk c.reopen_as_it_was.new.kept c.reopen_as_it_was.result
     (λ t there. c.reopen_as_it_was.ensures.replies (c.close.ensures.disk.same ∙ honest) first t there)
 
@@ -22,12 +21,12 @@ returns-in-Ok-clause-damage g c =
 
 pub returns-in-Err-clause-replies : goal.returns-in-Err-clause-replies
 returns-in-Err-clause-replies g c = λ honest first s at same.
-    close_refused g.D.Disk first s c.args.store.now c.args.disk.now at (busy_by s c.args.kept.now.evicting c.is_busy.result (ap (λ (k : Kept). k.evicting) same) (c.is_busy.ensures _ at.held.stands) ∙ c.if-is_busy.false) c.close.new.self c.close.new.disk c.close.ensures.frames c.in-Err.refusal c.args.kept.now c.refused-in-Err.result
+    close_refused g.D.Disk first s c.args.store.now c.args.disk.now at (busy_by s c.args.kept.now c.is_busy.result same (c.is_busy.ensures _ at.held.stands) ∙ c.if-is_busy.false) c.close.new.self c.close.new.disk c.close.ensures.frames c.close.ensures.running c.in-Err.refusal c.args.kept.now c.refused-in-Err.result
     (c.in-Err.ensures.shuts honest first s.world s.first s.made at.held) same c.refused-in-Err.ensures.reply c.refused-in-Err.ensures.formats
 
 pub returns-then-is_busy-clause-replies : goal.returns-then-is_busy-clause-replies
 returns-then-is_busy-clause-replies g c = λ honest first s at same.
-    close_busy g.D.Disk first s c.args.store.now c.args.disk.now c.refused.result c.args.kept.now at same (busy_by s c.args.kept.now.evicting c.is_busy.result (ap (λ (k : Kept). k.evicting) same) (c.is_busy.ensures _ at.held.stands) ∙ c.if-is_busy.true) c.refused.ensures.reply c.refused.ensures.formats
+    close_busy g.D.Disk first s c.args.store.now c.args.disk.now c.refused.result c.args.kept.now at same (busy_by s c.args.kept.now c.is_busy.result same (c.is_busy.ensures _ at.held.stands) ∙ c.if-is_busy.true) c.refused.ensures.reply c.refused.ensures.formats
 
 pub returns-then-is_busy-clause-told : goal.returns-then-is_busy-clause-told
 returns-then-is_busy-clause-told g c =
@@ -45,8 +44,8 @@ returns-in-Err-clause-told g c =
 
 pub returns-in-Some-clause-replies : goal.returns-in-Some-clause-replies
 returns-in-Some-clause-replies g c = λ honest first s at same.
-    close_evicting g.D.Disk first s c.args.store.now c.args.disk.now at (busy_by s c.args.kept.now.evicting c.is_busy.result (ap (λ (k : Kept). k.evicting) same) (c.is_busy.ensures _ at.held.stands) ∙ c.if-is_busy.false) c.args.store.now c.args.disk.now refl c.in-Some.frame c.args.kept.now
-    c.refused-in-Some.result same c.in-Some.ensures.some.0 c.in-Some.ensures.some.1 c.refused-in-Some.ensures.reply c.refused-in-Some.ensures.formats
+    close_evicting g.D.Disk first s c.args.store.now c.args.disk.now at (busy_by s c.args.kept.now c.is_busy.result same (c.is_busy.ensures _ at.held.stands) ∙ c.if-is_busy.false) c.args.store.now c.args.disk.now refl refl c.in-Some.frame c.args.kept.now
+    c.refused-in-Some.result same c.in-Some.ensures.some.0 c.in-Some.ensures.some.1 c.in-Some.ensures.some.2 c.refused-in-Some.ensures.reply c.refused-in-Some.ensures.formats
 
 pub returns-in-Some-clause-told : goal.returns-in-Some-clause-told
 returns-in-Some-clause-told g c =

@@ -1,4 +1,4 @@
-use Rattle.std.proofs.Common.{ap, subst, sym}
+use Rattle.std.proofs.Common.{subst, sym}
 use Rattle.script_run.specs.declared.kept.Kept.{Kept}
 use Rattle.script_text.specs.declared.line.Control.{Control}
 use Rattle.script_text.specs.declared.line.Control.TheVariants.{Checkpoint}
@@ -9,7 +9,7 @@ use Rattle.script_run.proofs.control.control.Goals as goal
 pub returns-in-Checkpoint-clause-replies : goal.returns-in-Checkpoint-clause-replies
 returns-in-Checkpoint-clause-replies g c = λ honest first s at same.
     subst (λ (a : Control). IsTold g.D.Disk first (OfAll a) s c.checkpoint.new.store c.checkpoint.new.disk c.args.kept.now c.checkpoint.result) (sym c.in-Checkpoint.is)
-    (subst (λ (l : Kept). IsTold g.D.Disk first (OfAll Checkpoint) s c.checkpoint.new.store c.checkpoint.new.disk l c.checkpoint.result) same (c.checkpoint.ensures.replies honest first s at (ap (λ (k : Kept). k.evicting) same)))
+    (subst (λ (l : Kept). IsTold g.D.Disk first (OfAll Checkpoint) s c.checkpoint.new.store c.checkpoint.new.disk l c.checkpoint.result) same (c.checkpoint.ensures.replies honest first s at same))
 
 pub returns-in-Close-clause-replies : goal.returns-in-Close-clause-replies
 returns-in-Close-clause-replies g c = λ honest first s at same.

@@ -6,7 +6,7 @@ use Rattle.script_run.proofs.control.reopen.Goals as goal
 
 pub returns-in-Err-clause-replies : goal.returns-in-Err-clause-replies
 returns-in-Err-clause-replies g c = λ honest first s at.
-    not_reopened g.D.Disk first s c.args.store.now c.reopen.new.self c.args.disk.now c.reopen.new.disk at c.args.frames c.in-Err.refusal (ap (λ (x : Store). x.frames) c.in-Err.ensures.same) (c.in-Err.ensures.opens honest first s.world s.first s.made at.held)
+    not_reopened g.D.Disk first s c.args.store.now c.reopen.new.self c.args.disk.now c.reopen.new.disk at c.args.frames c.in-Err.refusal (ap (λ (x : Store). x.frames) c.in-Err.ensures.same) (ap (λ (x : Store). x.running) c.in-Err.ensures.same) (c.in-Err.ensures.opens honest first s.world s.first s.made at.held)
 
 pub returns-in-Ok-clause-replies : goal.returns-in-Ok-clause-replies
 returns-in-Ok-clause-replies g c = λ honest first s at.

@@ -13,7 +13,7 @@ use Rattle.script_run.proofs.evicting.evict.Goals as goal
 
 pub returns-in-Err-clause-replies : goal.returns-in-Err-clause-replies
 returns-in-Err-clause-replies g c = λ honest first s at same none.
-    evict_short g.D.Disk first s c.args.store.now c.args.disk.now at c.refused.result c.args.call (the_eviction c.args.call c.requires.evicts c.requires.now) none c.refused.ensures.reply
+    evict_short g.D.Disk first s c.args.store.now c.args.disk.now at c.refused.result c.args.call (the_eviction c.args.call c.requires.evicts c.requires.now c.requires.other) none c.refused.ensures.reply
 
 pub returns-in-Err-clause-told : goal.returns-in-Err-clause-told
 returns-in-Err-clause-told g c =
@@ -21,7 +21,7 @@ returns-in-Err-clause-told g c =
 
 pub returns-in-None-clause-replies : goal.returns-in-None-clause-replies
 returns-in-None-clause-replies g c =
-    let e = the_eviction c.args.call c.requires.evicts c.requires.now in
+    let e = the_eviction c.args.call c.requires.evicts c.requires.now c.requires.other in
     absurd (c.in-None.ensures.none refl e.number e.table _ (c.in-Ok.ensures ∙ ap (stored_call c.formats_in-formats.result) e.is))
 
 pub returns-in-None-clause-told : goal.returns-in-None-clause-told
@@ -32,7 +32,7 @@ pub returns-in-Some-clause-replies : goal.returns-in-Some-clause-replies
 returns-in-Some-clause-replies g c = λ honest first s at same none.
     let formats = c.formats_in-formats.result in
     let told : Told = record { reply = Answered c.answer_to.result; formats = formats } in
-    evict_told g.D.Disk first s c.args.store.now c.answer_to.new.store c.args.disk.now c.answer_to.new.disk at told c.answer_to.ensures.frames c.args.call c.in-Some.asked.number c.in-Some.asked.table c.in-Some.asked.key
+    evict_told g.D.Disk first s c.args.store.now c.answer_to.new.store c.args.disk.now c.answer_to.new.disk at told c.answer_to.ensures.frames c.answer_to.ensures.running c.args.call c.in-Some.asked.number c.in-Some.asked.table c.in-Some.asked.key
     (c.formats_in-formats.ensures (with_kept c.args.store.now.ground.kept s.world) at.held.stands) (sym c.in-Ok.ensures ∙ c.in-Some.ensures.some) c.answer_to.result refl none
     (subst (λ (k : Kept). EvictsBeside g.D.Disk first s.world s.first s.made c.args.store.now c.answer_to.new.store c.args.disk.now c.answer_to.new.disk k.evicting c.in-Some.asked.number c.in-Some.asked.table c.in-Some.asked.key None c.answer_to.result) (sym same)
     (c.answer_to.ensures.evicts honest first s.world s.first s.made at.held))

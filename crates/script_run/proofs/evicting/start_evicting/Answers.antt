@@ -13,7 +13,7 @@ use Rattle.script_run.proofs.evicting.start_evicting.Goals as goal
 pub returns-in-Err-clause-replies : goal.returns-in-Err-clause-replies
 returns-in-Err-clause-replies g c = λ honest first s at same none.
     subst (λ (k : Kept). IsTold g.D.Disk first (Start c.args.call) s c.args.store.now c.args.disk.now k c.refused.result) same
-    (start_short g.D.Disk first s c.args.store.now c.args.disk.now at c.refused.result c.args.call (the_eviction c.args.call c.requires.evicts c.requires.now) none c.refused.ensures.reply)
+    (start_short g.D.Disk first s c.args.store.now c.args.disk.now at c.refused.result c.args.call (the_eviction c.args.call c.requires.evicts c.requires.now c.requires.other) none c.refused.ensures.reply)
 
 pub returns-in-Err-clause-told : goal.returns-in-Err-clause-told
 returns-in-Err-clause-told g c =
@@ -21,7 +21,7 @@ returns-in-Err-clause-told g c =
 
 pub returns-in-None-clause-replies : goal.returns-in-None-clause-replies
 returns-in-None-clause-replies g c =
-    let e = the_eviction c.args.call c.requires.evicts c.requires.now in
+    let e = the_eviction c.args.call c.requires.evicts c.requires.now c.requires.other in
     absurd (c.in-None.ensures.none refl e.number e.table _ (c.in-Ok.ensures ∙ ap (stored_call c.formats_in-formats.result) e.is))
 
 pub returns-in-None-clause-told : goal.returns-in-None-clause-told

@@ -16,7 +16,7 @@ returns-in-On-clause-replies g c = λ honest first s at same who is there.
     let turns = subst (λ (t : EvictTurn). MayTurn g.D.Disk c.args.store.now c.evict_step.new.self c.args.disk.now c.evict_step.new.disk c.args.kept.now.evicting c.args.number (evicting_by c.args.kept.now.evicting c.args.number) t) c.in-On.is c.evict_step.ensures.turns in
     subst (λ (k : Kept). IsTold g.D.Disk first (Step who) s c.evict_step.new.self c.evict_step.new.disk k c.more.result)
     (ap (λ (k : Kept). let moved : Kept = record k { evicting = staged k.evicting c.args.number c.in-On.stage } in moved) same ∙ ap (λ (l : List (Option Evicting)). let moved : Kept = record c.args.kept.now { evicting = l } in moved) (sym c.put_stage.ensures))
-    (turn_told g.D.Disk first s c.args.store.now c.evict_step.new.self c.args.disk.now c.evict_step.new.disk at c.more.result c.evict_step.ensures.frames c.args.number c.in-On.stage (evicting_by s.kept.evicting c.args.number) refl there who is
+    (turn_told g.D.Disk first s c.args.store.now c.evict_step.new.self c.args.disk.now c.evict_step.new.disk at c.more.result c.evict_step.ensures.frames c.evict_step.ensures.running c.args.number c.in-On.stage (evicting_by s.kept.evicting c.args.number) refl there who is
     (subst (λ (k : Kept). MayTurn g.D.Disk c.args.store.now c.evict_step.new.self c.args.disk.now c.evict_step.new.disk k.evicting c.args.number (evicting_by k.evicting c.args.number) (On c.in-On.stage)) (sym same) turns) c.more.ensures.reply)
 
 pub returns-in-On-clause-told : goal.returns-in-On-clause-told
@@ -27,7 +27,7 @@ returns-in-Ended-clause-replies g c = λ honest first s at same who is there.
     let turns = subst (λ (t : EvictTurn). MayTurn g.D.Disk c.args.store.now c.evict_step.new.self c.args.disk.now c.evict_step.new.disk c.args.kept.now.evicting c.args.number (evicting_by c.args.kept.now.evicting c.args.number) t) c.in-Ended.is c.evict_step.ensures.turns in
     subst (λ (k : Kept). IsTold g.D.Disk first (Step who) s c.evict_step.new.self c.evict_step.new.disk k c.told_of.result)
     (ap (λ (k : Kept). let moved : Kept = record k { evicting = slice_set k.evicting c.args.number None } in moved) same ∙ ap (λ (l : List (Option Evicting)). let moved : Kept = record c.args.kept.now { evicting = l } in moved) (sym c.put_evicting.ensures))
-    (end_told g.D.Disk first s c.args.store.now c.evict_step.new.self c.args.disk.now c.evict_step.new.disk at c.told_of.result c.evict_step.ensures.frames c.args.number honest c.in-Ended.result (evicting_by s.kept.evicting c.args.number) refl there who is
+    (end_told g.D.Disk first s c.args.store.now c.evict_step.new.self c.args.disk.now c.evict_step.new.disk at c.told_of.result c.evict_step.ensures.frames c.evict_step.ensures.running c.args.number honest c.in-Ended.result (evicting_by s.kept.evicting c.args.number) refl there who is
     (subst (λ (k : Kept). MayTurn g.D.Disk c.args.store.now c.evict_step.new.self c.args.disk.now c.evict_step.new.disk k.evicting c.args.number (evicting_by k.evicting c.args.number) (Ended c.in-Ended.result)) (sym same) turns) c.told_of.ensures.reply)
 
 pub returns-in-Ended-clause-told : goal.returns-in-Ended-clause-told

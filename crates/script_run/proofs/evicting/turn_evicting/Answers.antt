@@ -1,4 +1,3 @@
-use Rattle.script_text.specs.declared.line.Line.TheVariants.{Finish, Step}
 use Rattle.script_run.proofs.EvictingLines.{busy_line, finish_line, step_line}
 use Rattle.script_run.proofs.Telling.{refused_faults, same_told}
 use Rattle.script_run.proofs.evicting.turn_evicting.Goals as goal

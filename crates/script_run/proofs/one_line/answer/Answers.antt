@@ -1,7 +1,8 @@
-use Rattle.std.proofs.Common.{◌∙◌, refl, subst, sym, inl}
+use Rattle.std.proofs.Common.{◌∙◌, refl, subst, sym, inl, ap}
 use Rattle.wt_calls.specs.declared.call.Call.{Call}
 use Rattle.script_text.specs.declared.replies.Reply.TheVariants.{Answered}
 use Rattle.script_run.specs.declared.told.Told.{Told}
+use Rattle.engine_store.specs.Progress.{place_in}
 use Rattle.engine_store.specs.Calls.{MayAnswerOn}
 use Rattle.engine_store.specs.Devices.{device_of}
 use Rattle.script_run.specs.Runs.{IsTaken}
@@ -49,6 +50,7 @@ returns-in-Ok g c =
             held = x.held;
             device = refl;
             frames = c.answer_to.ensures.keeps.frames ∙ at.frames;
+            progress = ap place_in c.answer_to.ensures.keeps.running ∙ at.progress;
             start = refl;
             kept_is = refl;
           };

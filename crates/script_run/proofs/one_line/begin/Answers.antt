@@ -5,6 +5,7 @@ use Rattle.engine.specs.declared.step.Step.TheVariants.{Start}
 use Rattle.engine.specs.Runs.{MayStep, StepFits}
 use Rattle.script_run.specs.declared.kept.Kept.{Kept}
 use Rattle.script_run.specs.declared.told.Told.{Told}
+use Rattle.engine_store.specs.Progress.{place_in}
 use Rattle.engine_store.specs.Devices.{device_of}
 use Rattle.script_run.specs.Runs.{IsBegun}
 use Rattle.script_run.specs.Scripts.{Begins, CauseOn, caller, kept_after}
@@ -57,6 +58,7 @@ returns-in-Ok g c =
             held = x.held;
             device = refl;
             frames = c.step_beside-reply.ensures.keeps.frames ∙ at.frames;
+            progress = ap place_in c.step_beside-reply.ensures.keeps.running ∙ at.progress;
             start = refl;
             kept_is = sym (c.keep_after.ensures ∙ ap (λ (a : Actor). kept_after t a formats c.args.kept.now) c.caller-who.ensures ∙ ap (λ (l : Kept). kept_after t (caller c.args.call) formats l) (sym same));
           };

@@ -2,6 +2,7 @@ use Rattle.std.proofs.Common.{◌∙◌, refl, ap, sym}
 use Rattle.script_text.specs.declared.replies.Reply.TheVariants.{Answered}
 use Rattle.script_run.specs.declared.kept.Kept.{Kept}
 use Rattle.script_run.specs.declared.told.Told.{Told}
+use Rattle.engine_store.specs.Progress.{place_in}
 use Rattle.engine_store.specs.Devices.{device_of}
 use Rattle.script_run.specs.Scripts.{kept_formats}
 use Rattle.script_run.proofs.Replying.{actor-fits, finished, is-read}
@@ -36,6 +37,7 @@ returns g c =
             held = x.held;
             device = refl;
             frames = c.finish_beside.ensures.keeps.frames ∙ at.frames;
+            progress = ap place_in c.finish_beside.ensures.keeps.running ∙ at.progress;
             start = refl;
             kept_is = refl;
           };

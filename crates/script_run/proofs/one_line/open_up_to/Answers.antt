@@ -1,5 +1,6 @@
 use Rattle.std.specs.Prelude.{None}
-use Rattle.std.proofs.Common.{◌∙◌, ◌<◌, length, arith, sym, subst}
+use Rattle.std.proofs.Common.{◌∙◌, ◌<◌, length, arith, sym, subst, ap}
+use Rattle.engine_store.specs.Progress.{place_in}
 use Rattle.engine_store.specs.declared.store.Store.{Store}
 use Rattle.script_run.specs.Runs.{StandsAt}
 use Rattle.script_run.specs.Scripts.{opened_more}
@@ -28,7 +29,7 @@ opening-preserved g c =
           let h = i.opens disk honest first s w at in
           let x = c.in-Ok.ensures.opened disk ((i.keeps disk).looked.same ∙ honest) first (opened_more h.count w) s.first s.made h.holds.held in
           one-opened c.args.session w (λ v. StandsAt g.D.Disk first store disk s v) (λ v. StandsAt g.D.Disk first store' disk s v) (length store.engine.sessions) (length store'.engine.sessions) h
-          (omega (arith, c.opening-test.true, c.sessions.ensures)) c.in-Ok.ensures.more (record { held = x.held; device = h.holds.device; frames = (c.in-Ok.ensures.keeps disk).frames ∙ h.holds.frames });
+          (omega (arith, c.opening-test.true, c.sessions.ensures)) c.in-Ok.ensures.more (record { held = x.held; device = h.holds.device; frames = (c.in-Ok.ensures.keeps disk).frames ∙ h.holds.frames; progress = ap place_in (c.in-Ok.ensures.keeps disk).running ∙ h.holds.progress });
       told = λ disk start le are. (c.in-Ok.ensures.told disk None start le tt (i.told disk start le are)).1;
       keeps = λ disk. keeps_then g.D.Disk before store store' disk disk disk (i.keeps disk) (c.in-Ok.ensures.keeps disk);
     }

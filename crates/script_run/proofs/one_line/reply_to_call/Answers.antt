@@ -7,7 +7,7 @@ use Rattle.script_run.proofs.one_line.reply_to_call.Goals as goal
 
 pub returns-in-None-clause-replies : goal.returns-in-None-clause-replies
 returns-in-None-clause-replies g c = λ honest first s at same.
-    c.reply_to_free.ensures.replies honest first s at same (ap (λ (k : Kept). eviction_of (actor_of c.args.line) k.evicting) same ∙ c.in-None.ensures.none refl)
+    c.reply_to_calling.ensures.replies honest first s at same (ap (λ (k : Kept). eviction_of (actor_of c.args.line) k.evicting) same ∙ c.in-None.ensures.none refl)
 
 pub returns-in-Some-clause-replies : goal.returns-in-Some-clause-replies
 returns-in-Some-clause-replies g c = λ honest first s at same.

@@ -7,6 +7,7 @@ use Rattle.script_run.specs.declared.script.End.TheVariants.{Stopped}
 use Rattle.script_run.specs.declared.script.ScriptRun.{ScriptRun}
 use Rattle.engine_store.specs.declared.frames.Frames.TheVariants.{Firm}
 use Rattle.engine_store.specs.Full.{count_of}
+use Rattle.engine_store.specs.Progress.{place_in}
 use Rattle.script_run.specs.Lines.{Held}
 use Rattle.script_run.proofs.Devices.{same_disk}
 use Rattle.script_run.proofs.Telling.{told_none}
@@ -18,7 +19,7 @@ returns-in_default g c =
     let told : ScriptRun = record { end = Stopped NoMemory; met = None } in
     record {
       run = λ honest w held.
-          none-run g.D.Disk c.args.disk.now w (count_of c.args.store.now.frames) g.S.Source g.K.Sink c.args.input.now c.args.out.now (record c.args.store.now { frames = Firm c.count.result }) told refl refl
+          none-run g.D.Disk c.args.disk.now w (count_of c.args.store.now.frames) (place_in c.args.store.now.running) g.S.Source g.K.Sink c.args.input.now c.args.out.now (record c.args.store.now { frames = Firm c.count.result }) told refl refl
           (frames-held g.D.Disk c.args.disk.now c.args.disk.now c.args.store.now (Firm c.count.result) w w.machine.completed [] held);
       input = λ is. absurd cc;
       output = λ is. absurd cc;
@@ -41,7 +42,7 @@ lines-init g c =
       told = λ none. told_none g.D.Disk c.args.store.now.engine c.args.disk.now none;
       met = λ none met. absurd (none-met DiskFault (sym place.met ∙ met));
       done = λ honest w held.
-          none-done g.D.Disk c.args.disk.now w (count_of c.args.store.now.frames) g.S.Source g.K.Sink c.args.input.now c.args.out.now c.in-Ok.lines c.first-place.result (record c.args.store.now { frames = Firm c.count.result }) (ap Firm c.count.ensures) (ap (λ (h : Held). h.behind) c.in-Ok.ensures) place.line place.used place.kept place.met
+          none-done g.D.Disk c.args.disk.now w (count_of c.args.store.now.frames) (place_in c.args.store.now.running) g.S.Source g.K.Sink c.args.input.now c.args.out.now c.in-Ok.lines c.first-place.result (record c.args.store.now { frames = Firm c.count.result }) (ap Firm c.count.ensures) refl (ap (λ (h : Held). h.behind) c.in-Ok.ensures) place.line place.used place.kept place.met
           (frames-held g.D.Disk c.args.disk.now c.args.disk.now c.args.store.now (Firm c.count.result) w w.machine.completed [] held);
     }
 
@@ -53,7 +54,7 @@ returns-in-Some g c =
     record {
       run = λ honest w held.
           let d = i.done honest w held in
-          run-done g.D.Disk c.args.disk.now w (count_of c.args.store.now.frames) g.S.Source g.K.Sink c.args.input.now c.lines.input c.turn.new.input c.args.out.now c.lines.out c.turn.new.out c.lines.lines c.lines.place c.turn.new.place c.lines.store c.turn.new.store c.lines.disk c.turn.new.disk told
+          run-done g.D.Disk c.args.disk.now w (count_of c.args.store.now.frames) (place_in c.args.store.now.running) g.S.Source g.K.Sink c.args.input.now c.lines.input c.turn.new.input c.args.out.now c.lines.out c.turn.new.out c.lines.lines c.lines.place c.turn.new.place c.lines.store c.turn.new.store c.lines.disk c.turn.new.disk told
           i.reads i.writes d (e.made (i.disk.same ∙ honest) c.args.disk.now d.script d.at d.kept) refl;
       input = λ is. rose-before (g.S.Source.fault_count c.args.input.now) (g.S.Source.fault_count c.lines.input) (g.S.Source.fault_count c.turn.new.input) i.reads (e.input_fails is);
       output = λ is. rose-before (g.K.Sink.fault_count c.args.out.now) (g.K.Sink.fault_count c.lines.out) (g.K.Sink.fault_count c.turn.new.out) i.writes (e.output_fails is);
@@ -81,6 +82,6 @@ lines-preserved g c =
           rose-either (c.lines.place.met ≡ Some DiskFault) (g.D.Disk.faults c.args.disk.now) (g.D.Disk.faults c.lines.disk) (g.D.Disk.faults c.turn.new.disk) c.turn.ensures.disk.later (i.met none) ((e.told c.args.disk.now i.disk.later (i.told none)).0 met);
       done = λ honest w held.
           let d = i.done honest w held in
-          more-done g.D.Disk c.args.disk.now w (count_of c.args.store.now.frames) g.S.Source g.K.Sink c.args.input.now c.lines.input c.turn.new.input c.args.out.now c.lines.out c.turn.new.out c.lines.lines c.turn.new.lines c.lines.place c.turn.new.place c.lines.store c.turn.new.store c.lines.disk c.turn.new.disk
+          more-done g.D.Disk c.args.disk.now w (count_of c.args.store.now.frames) (place_in c.args.store.now.running) g.S.Source g.K.Sink c.args.input.now c.lines.input c.turn.new.input c.args.out.now c.lines.out c.turn.new.out c.lines.lines c.turn.new.lines c.lines.place c.turn.new.place c.lines.store c.turn.new.store c.lines.disk c.turn.new.disk
           e.stays d (e.made (i.disk.same ∙ honest) c.args.disk.now d.script d.at d.kept);
     }

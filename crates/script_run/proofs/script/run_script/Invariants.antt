@@ -9,6 +9,7 @@ use Rattle.engine_store.specs.Calls.{AreToldSo}
 use Rattle.engine_store.specs.Full.{count_of}
 use Rattle.engine_store.specs.Held.{IsHeld}
 use Rattle.engine_store.specs.Opened.{IsReady}
+use Rattle.engine_store.specs.Progress.{place_in}
 use Rattle.script_run.specs.declared.script.TheConstants.{INPUT_MAX}
 use Rattle.script_run.proofs.Scripting.{IsDone}
 use Rattle.script_run.proofs.script.run_script.Given as goal
@@ -25,7 +26,7 @@ invariant-lines g l = record {
   told : length l.fn.store.engine.sessions ≡ 0 → AreToldSo g.D.Disk None l.fn.disk l.store.engine l.disk;
   met : length l.fn.store.engine.sessions ≡ 0 → l.place.met ≡ Some DiskFault → Rose (g.D.Disk.faults l.fn.disk) (g.D.Disk.faults l.disk);
   done : IsTrue (g.D.Disk.honest l.fn.disk) → (w : World) → IsHeld g.D.Disk l.fn.disk l.fn.store l.fn.disk w w.machine.completed []
-      → IsDone g.D.Disk l.fn.disk w (count_of l.fn.store.frames) g.S.Source g.K.Sink l.fn.input l.input l.fn.out l.out l.lines l.place l.store l.disk;
+      → IsDone g.D.Disk l.fn.disk w (count_of l.fn.store.frames) (place_in l.fn.store.running) g.S.Source g.K.Sink l.fn.input l.input l.fn.out l.out l.lines l.place l.store l.disk;
 }
 
 abbrev pub decreases-lines : goal.decreases-lines

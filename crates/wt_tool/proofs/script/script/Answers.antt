@@ -3,7 +3,10 @@ use Rattle.kv_model.specs.Calls.{Call}
 use Rattle.kv_model.specs.Content.{start}
 use Rattle.engine_world.specs.Systems.{first_world}
 use Rattle.engine_world.specs.Worlds.{World}
+use Rattle.engine_store.specs.declared.eviction.TheConstants.{FRAMES}
+use Rattle.engine_store.specs.declared.progress.Progress.{Progress}
 use Rattle.engine_store.specs.Full.{count_of}
+use Rattle.engine_store.specs.Progress.{place_in}
 use Rattle.script_run.specs.Scripts.{Outside, opened_world, outside}
 use Rattle.script_run.specs.Runs.{IsRun}
 use Rattle.wt_tool.specs.Top.{Streams, errors_of, streams_of}
@@ -22,9 +25,10 @@ returns-clause-run g c h content each =
     let held = first_held D c.args.disk.now s on content each reads (λ d left. g.met.D.Disk.only_now _ d left) in
     let world = ap (λ (l : List (Option Call)). let v : World = record { machine = start content; sessions = []; systems = l; shelf = on.shelf; records = λ id key. []; again = λ session. false } in v) (four_rest s.engine.systems c.actors.ensures.systems) in
     scripted D o content on.shelf w c.args.disk.now c.run_script-ran.new.disk c.run_script-ran.new.store c.run_script-ran.result c.told-status.result
-    (subst (λ (n : ℕ). IsRun D o w.in_before w.in_now w.out_before w.out_now (opened_world (start content) on.shelf) c.args.disk.now c.run_script-ran.new.disk n c.run_script-ran.new.store c.run_script-ran.result) (ap count_of (c.requires.on h).soft)
-    (subst (λ (v : World). IsRun D o w.in_before w.in_now w.out_before w.out_now v c.args.disk.now c.run_script-ran.new.disk (count_of s.frames) c.run_script-ran.new.store c.run_script-ran.result) world
-    (c.run_script-ran.ensures.run h (first_world content on.shelf (λ id key. []) s.engine) held)))
+    (subst (λ (p : Option Progress). IsRun D o w.in_before w.in_now w.out_before w.out_now (opened_world (start content) on.shelf) c.args.disk.now c.run_script-ran.new.disk FRAMES p c.run_script-ran.new.store c.run_script-ran.result) (ap place_in on.running)
+    (subst (λ (n : ℕ). IsRun D o w.in_before w.in_now w.out_before w.out_now (opened_world (start content) on.shelf) c.args.disk.now c.run_script-ran.new.disk n (place_in s.running) c.run_script-ran.new.store c.run_script-ran.result) (ap count_of (c.requires.on h).soft)
+    (subst (λ (v : World). IsRun D o w.in_before w.in_now w.out_before w.out_now v c.args.disk.now c.run_script-ran.new.disk (count_of s.frames) (place_in s.running) c.run_script-ran.new.store c.run_script-ran.result) world
+    (c.run_script-ran.ensures.run h (first_world content on.shelf (λ id key. []) s.engine) held))))
     c.told-status.ensures
 
 pub returns-clause-told : goal.returns-clause-told

@@ -10,7 +10,7 @@ use Rattle.engine_store.specs.Keeping.{with_kept}
 use Rattle.engine_store.proofs.AsHeld.{checkpoints_as}
 use Rattle.engine_store.proofs.KeptAnswers.{own_same, own_taken, own_then, told_own}
 use Rattle.engine_store.proofs.BarredNow.{checkpoints_barred}
-use Rattle.engine_store.proofs.Taking.{checkpoints_by, relieved_by}
+use Rattle.engine_store.proofs.CheckpointTaken.{checkpoints_by, relieved_by}
 use Rattle.engine_store.proofs.UnderWayStill.{runs_none}
 use Rattle.engine_store.proofs.store.Store.checkpoint.Goals as goal
 

@@ -27,7 +27,6 @@ use Rattle.engine_world.specs.Systems.{DownsGo, checkpointed, with_fault}
 use Rattle.engine_world.specs.Worlds.{World}
 use Rattle.engine_world.proofs.HubMoves.{decided-down}
 use Rattle.engine.specs.Checkpoints.{MayStart}
-use Rattle.engine.specs.declared.running_checkpoint.RunningCheckpoint.{RunningCheckpoint}
 use Rattle.evict_step.specs.Kept.{KeepsThese, Lists}
 use Rattle.ckpt_step.specs.declared.ground.Ground.{Ground}
 use Rattle.ckpt_content.specs.Laws.{ReadFinishesOpen}
@@ -38,6 +37,7 @@ use Rattle.ckpt_step.specs.Rooms.{known_in}
 use Rattle.ckpt_step.specs.Takes.{Fallen, IsWholeOf, NotTaken, Taken, Takes, WhyNot, begun}
 use Rattle.engine_store.specs.declared.eviction.Clock.{Clock}
 use Rattle.engine_store.specs.declared.frames.Frames.{Frames}
+use Rattle.engine_store.specs.declared.progress.Underway.{Underway}
 use Rattle.engine_store.specs.declared.store.Store.{Store}
 use Rattle.engine_store.specs.Answers.{CheckpointTakes}
 use Rattle.engine_store.specs.Devices.{ArePartedOn, Installed, IsLater, IsNumberOf, device_of, may_open_to}
@@ -236,7 +236,7 @@ module _ {D : Type 0} (g : Ghosts D) (start_disk before after : D)
         taken_with = record {
           next = checkpointed m;
           now = made ++ installed None ∷ [];
-          behind = record { later = is_later t.leaves.later; capacity = room; has = (t.new, number, t.is, t.on.stands.seen_has) };
+          behind = record { later = is_later t.leaves.later; capacity = room; has = (t.new, number, counted, t.is, t.on.stands.seen_has) };
           takes = inr (number, Ok tt, counted, t.may, record { storing = StoredWhole; takes = (s.engine.hub.dir.leaves, known_in s.ground.parts, parted, t.had_room); told = refl; leaves = refl });
           installs = refl;
           held = held_kept g start_disk after s' (record w { machine = checkpointed m; shelf = shelf }) first (made ++ installed None ∷ []) (done_held t.new (installed None) (opens_new t.new t.is) t.leaves (record w { machine = checkpointed m; shelf = shelf }) stands keeps bare (idle_still (checkpointed m) refl) refl refl t.each
@@ -380,7 +380,7 @@ pub same_store : (s s' : Store) → s'.engine ≡ s.engine → s'.ground ≡ s.g
 same_store s s' engine place running =
     ap (λ (e : Engine). let x : Store = record s' { engine = e } in x) engine
     ∙ ap (λ (p : Ground). let x : Store = record s' { engine = s.engine; ground = p } in x) place
-    ∙ ap (λ (o : Option RunningCheckpoint). let x : Store = record s' { engine = s.engine; ground = s.ground; running = o } in x) running
+    ∙ ap (λ (o : Option Underway). let x : Store = record s' { engine = s.engine; ground = s.ground; running = o } in x) running
 
 module _ {D : Type 0} (g : Ghosts D) (start_disk before after : D)
     (counts : g.moment before ≤ g.moment after → (c : List ℕ) → g.may_leave after c → g.left_since after (g.moment before) c) (only : (c : List ℕ) → g.left_since after (g.moment after) c → g.may_leave after c)
@@ -411,7 +411,7 @@ module _ {D : Type 0} (g : Ghosts D) (start_disk before after : D)
     (image : g.may_leave before (g.seen before)) (s s' : Store) (w : World) (first : Completed) (made : List Installed) (held : IsHeldIn g start_disk s before w first made) (free : s.running ≡ None) (none : s'.running ≡ None)
     (count : g.faults before ≤ g.faults after) (room : g.capacity after ≡ g.capacity before) (law : ReadFinishesOpen) (downs : DownsGo) (have : CheckpointsHaveNewest) (stand : Ground) (e : Engine)
     (takes : (old : Option Stored) → StandsOn (g.seen before) (g.may_leave before) s.engine.hub s.ground old → Follows old s.engine.hub s.ground w → AreLivesOn (g.seen before) s.engine.hub s.ground w → Taken g old w s.ground stand s.engine e before after)
-    (up : (fault : Fault) → s.engine.hub.fault ≡ Some fault → ⊥) (o : Option RunningCheckpoint) (n : Frames) (k : Clock) (goes : LetsGo g (record { engine = e; ground = stand; running = o; frames = n; clock = k }) s') (kept : stand.kept ≡ s.ground.kept) where
+    (up : (fault : Fault) → s.engine.hub.fault ≡ Some fault → ⊥) (o : Option Underway) (n : Frames) (k : Clock) (goes : LetsGo g (record { engine = e; ground = stand; running = o; frames = n; clock = k }) s') (kept : stand.kept ≡ s.ground.kept) where
   -- the engine that was checkpointed is the same
   of_first : {seen : List ℕ} {images : List ℕ → Type 0} {old : Option Stored} {v : World} → e ≡ s.engine → IsRelieved seen images old e.hub.dir.next v s' → IsRelieved seen images old s.engine.hub.dir.next v s'
   of_first {seen} {images} {old} {v} same r = subst (λ (x : Engine). IsRelieved seen images old x.hub.dir.next v s') same r
